@@ -1,0 +1,26 @@
+-- The difference by seconds and nanoseconds is that of the whole stamps, modulo the cycle; and what is accepted is short.
+-- Assumes nothing.
+use Prim.Native.Nat.{ℕ, _+_, _*_, _-_, _%_, _<_, _≤_, _^_}
+use mathlib.Core.Path.{_≡_}
+use mathlib.Core.Bool.{_||_}
+use native.Mathlib.Omega.{arith}
+use borrow.Author.Tests.{ltb-false}
+use lib.Dec.{ltb}
+use Rattle.refusal.specs.Answer.{value, refuse}
+use Rattle.refusal.proofs.Answers.{passes}
+use Rattle.stamp.specs.declared.Stamp.{Stamp}
+use Rattle.stamp.specs.Stamp.{secondsDifference, inNanoseconds, cycle, elapsed, nanosecondsOf}
+
+-- the code's difference, from the seconds' difference s and the nanoseconds x and y
+pub by-parts : (s a x b y : ℕ) → a < 2 ^ 32 → b < 2 ^ 32 → x ≤ 999999999 → y ≤ 999999999 → s ≡ secondsDifference a b
+    → (s * 1000000000 + y + 4294967296000000000 - x) % 4294967296000000000 ≡ (b * 1000000000 + y + cycle - (a * 1000000000 + x)) % cycle
+by-parts s a x b y ha hb hx hy e = omega arith
+
+-- nanoseconds that are accepted
+pub accepted : (entry exit : Stamp) (n : ℕ) → nanosecondsOf entry exit ≡ value n → n ≤ 3999999999
+accepted entry exit n e =
+    let d = elapsed entry exit in
+    let f = passes 9 (ltb 999999999 (entry .nanoseconds) || ltb 999999999 (exit .nanoseconds)) (refuse 10 (ltb 3999999999 d) (value d)) n e in
+    let g = passes 10 (ltb 3999999999 d) (value d) n (f .1) in
+    let same : d ≡ n = cc in
+    omega (arith, ltb-false 3999999999 d (g .0))
