@@ -1,0 +1,56 @@
+-- What is known of the fields of a message that the writer accepts.
+-- Assumes nothing.
+use Prim.Native.Nat.{ℕ, _+_, _≤_}
+use mathlib.Core.Path.{_≡_, refl, sym, ap, _∙_}
+use mathlib.Core.Bool.{Bool, true, false, not, cond, _&&_, false≢true}
+use native.Mathlib.Omega.{arith}
+use borrow.Author.Tests.{leb-true, ltb-false, not-false}
+use lib.Dec.{ltb, leb, eqb}
+use Rattle.refusal.specs.Answer.{Answer, value, refuse}
+use Rattle.refusal.proofs.Answers.{passes}
+use Rattle.message.specs.Read.{isType}
+use Rattle.message.specs.Write.{isPtp, carriedAt, fitOf, sizeOf}
+
+both : (a b : Bool) → (a && b) ≡ true → (a ≡ true) × (b ≡ true)
+both true true e = (refl, refl)
+both true false e = (refl, e)
+both false b e = (e, absurd (false≢true e))
+
+-- the Types with a sub-TLV
+pub ptp-types : (t : ℕ) → isPtp t ≡ true → (2 ≤ t) × (t ≤ 4)
+ptp-types t p =
+    let b = both (leb 2 t) (leb t 4) p in
+    (leb-true 2 t (b .0), leb-true t 4 (b .1))
+
+pub record Accepted (t k carried room n : ℕ) : Type 0 where
+  pub known : isType t ≡ true
+  pub kind : (isPtp t && ltb 15 k) ≡ false
+  pub empty : (eqb t 1 && ltb 0 carried) ≡ false
+  pub size : carriedAt t + carried ≡ n
+  pub short : n ≤ 2048
+  pub fits : n ≤ room
+
+pub accepted : (t k carried room n : ℕ) → sizeOf t k carried room ≡ value n → Accepted t k carried room n
+accepted t k carried room n e =
+    let z = carriedAt t + carried in
+    let f = passes 6 (not (isType t)) (refuse 17 (isPtp t && ltb 15 k) (refuse 7 (eqb t 1 && ltb 0 carried) (fitOf z room))) n e in
+    let g = passes 17 (isPtp t && ltb 15 k) (refuse 7 (eqb t 1 && ltb 0 carried) (fitOf z room)) n (f .1) in
+    let h = passes 7 (eqb t 1 && ltb 0 carried) (fitOf z room) n (g .1) in
+    let i = passes 2 (ltb 2048 z) (refuse 12 (ltb room z) (value z)) n (h .1) in
+    let j = passes 12 (ltb room z) (value z) n (i .1) in
+    let same : z ≡ n = cc in
+    record {
+      known = not-false (isType t) (f .0);
+      kind = g .0;
+      empty = h .0;
+      size = same;
+      short = omega (arith, ltb-false 2048 z (i .0));
+      fits = omega (arith, ltb-false room z (j .0));
+    }
+
+module _ {t k carried room n : ℕ} (a : Accepted t k carried room n) where
+  pub ptp-size : isPtp t ≡ true → 36 + carried ≡ n
+  ptp-size p = ap (λ (b : Bool). cond b 36 16 + carried) (sym p) ∙ a .size
+
+  pub plain-size : isPtp t ≡ false → 16 + carried ≡ n
+  plain-size p = ap (λ (b : Bool). cond b 36 16 + carried) (sym p) ∙ a .size

@@ -1,0 +1,66 @@
+-- `read_sub_tlv` meets its contract: at each return the tests on the way there decide the definition's.
+-- Assumes nothing.
+use native.Mathlib.Omega.{arith}
+use borrow.Author.Tests.{lt-ltb, le-ltb, eq-eqb, ne-eqb}
+use lib.ListN.{length}
+use Rattle.octets.specs.Octets.{number}
+use borrow.Author.Needs.{needs}
+use Rattle.message.proofs.reader.read_sub_tlv.Statement.{statement}
+use Rattle.message.proofs.reader.read_sub_tlv.Tie as tie
+
+returns : tie.Need-returns
+returns c =
+    let v = c .before .before .args .value .now in
+    simp (lt-ltb (length v) 20 (omega arith))
+
+read16-requires : tie.Need-read16-requires
+read16-requires c κs = search needs
+
+returns-2 : tie.Need-returns-2
+returns-2 c =
+    let v = c .before .before .before .before .args .value .now in
+    simp (le-ltb (length v) 20 (omega arith), ne-eqb (number 2 v 0) 1 (λ e. omega arith))
+
+read16-requires-2 : tie.Need-read16-requires-2
+read16-requires-2 c κs = search needs
+
+returns-3 : tie.Need-returns-3
+returns-3 c =
+    let v = c .before .before .before .before .before .before .args .value .now in
+    simp (le-ltb (length v) 20 (omega arith), eq-eqb (number 2 v 0) 1 (omega arith), ne-eqb (number 2 v 2) 20 (λ e. omega arith))
+
+shared-slice-read-flags : tie.Need-shared-slice-read-flags
+shared-slice-read-flags c = search needs
+
+shared-slice-read-ptp-type : tie.Need-shared-slice-read-ptp-type
+shared-slice-read-ptp-type c = search needs
+
+read64-requires : tie.Need-read64-requires
+read64-requires c κs = search needs
+
+read16-requires-3 : tie.Need-read16-requires-3
+read16-requires-3 c κs = search needs
+
+read16-requires-4 : tie.Need-read16-requires-4
+read16-requires-4 c κs = search needs
+
+returns-4 : tie.Need-returns-4
+returns-4 c =
+    let v = c .before .before .before .before .before .before .before .before .before .before .before .args .value .now in
+    simp (le-ltb (length v) 20 (omega arith), eq-eqb (number 2 v 0) 1 (omega arith), eq-eqb (number 2 v 2) 20 (omega arith)) cc
+
+pub read-sub-tlv-spec : {M : Type 1} → statement M
+read-sub-tlv-spec =
+    tie.close
+    (tie.spec
+    returns
+    read16-requires
+    returns-2
+    read16-requires-2
+    returns-3
+    shared-slice-read-flags
+    shared-slice-read-ptp-type
+    read64-requires
+    read16-requires-3
+    read16-requires-4
+    returns-4)

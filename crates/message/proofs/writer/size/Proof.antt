@@ -1,0 +1,76 @@
+-- `size` meets its contract: its tests are the definition's, in their order.
+-- Assumes nothing.
+use native.Mathlib.Omega.{arith}
+use mathlib.Core.Path.{sym, _∙_}
+use mathlib.Core.Logic.{⊎-elim}
+use borrow.Author.Tests.{lt-ltb, le-ltb, le-leb, lt-leb, eq-eqb, ne-eqb}
+use Rattle.message.proofs.Accepted.{ptp-types}
+use borrow.Author.Needs.{needs}
+use Rattle.message.proofs.writer.size.Statement.{statement}
+use Rattle.message.proofs.writer.size.Tie as tie
+
+returns : tie.Need-returns
+returns c =
+    let a = c .before .args in
+    let t = a .message-type in
+    simp (lt-leb 1 t (omega arith))
+
+returns-2 : tie.Need-returns-2
+returns-2 c =
+    let a = c .before .before .args in
+    let t = a .message-type in
+    simp (le-leb 1 t (omega arith), lt-leb t 5 (omega arith))
+
+is-ptp-requires : tie.Need-is-ptp-requires
+is-ptp-requires c κs = search needs
+
+returns-3 : tie.Need-returns-3
+returns-3 c =
+    let a = c .before .before .before .before .before .args in
+    let t = a .message-type in
+    let p = sym (c .before .before .is-ptp .ensures) ∙ c .before .if3 .taken in
+    simp (le-leb 1 t (omega arith), le-leb t 5 (omega arith), p, lt-ltb 15 (a .ptp-type) (omega arith))
+
+fit-requires : tie.Need-fit-requires
+fit-requires c κs = search needs
+
+returns-4 : tie.Need-returns-4
+returns-4 c =
+    let a = c .before .before .before .before .before .before .args in
+    let t = a .message-type in
+    let p = sym (c .before .before .before .is-ptp .ensures) ∙ c .before .before .if3 .taken in
+    simp (le-leb 1 t (omega arith), le-leb t 5 (omega arith), p, le-ltb 15 (a .ptp-type) (omega arith), ne-eqb t 1 (λ e. omega (arith, ptp-types t p))) (c .fit .ensures)
+
+returns-5 : tie.Need-returns-5
+returns-5 c =
+    let a = c .before .before .before .before .before .before .args in
+    let t = a .message-type in
+    let p = sym (c .before .before .before .is-ptp .ensures) ∙ c .before .before .if3 .left in
+    simp (le-leb 1 t (omega arith), le-leb t 5 (omega arith), p, eq-eqb t 1 (omega arith), lt-ltb 0 (a .carried) (omega arith))
+
+fit-requires-2 : tie.Need-fit-requires-2
+fit-requires-2 c κs = search needs
+
+returns-6 : tie.Need-returns-6
+returns-6 c =
+    let a = c .before .before .before .before .before .before .args in
+    let t = a .message-type in
+    let p = sym (c .before .before .before .is-ptp .ensures) ∙ c .before .before .if3 .left in
+    ⊎-elim
+    (λ w. simp (le-leb 1 t (omega arith), le-leb t 5 (omega arith), p, eq-eqb t 1 (omega arith), le-ltb 0 (a .carried) (omega arith)) (c .fit2 .ensures))
+    (λ w. simp (le-leb 1 t (omega arith), le-leb t 5 (omega arith), p, ne-eqb t 1 (λ e. omega arith)) (c .fit2 .ensures))
+    (c .before .if5 .came)
+
+pub size-spec : {M : Type 1} → statement M
+size-spec =
+    tie.close
+    (tie.spec
+    returns
+    returns-2
+    is-ptp-requires
+    returns-3
+    fit-requires
+    returns-4
+    returns-5
+    fit-requires-2
+    returns-6)

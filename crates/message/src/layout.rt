@@ -1,0 +1,39 @@
+// The layout of a message, in the order of RFC 8169's figures: the first octet of each field.
+
+// Octets 0 to 3, the G-ACh header: 0001, Version 0, Reserved 0, channel type 000F.
+pub const G_ACH_HEADER: [u8; 4] = *b"\x10\x00\x00\x0F";
+
+pub const CHANNEL_TYPE: usize = 2;
+
+pub const SCRATCH_PAD: usize = 4;
+
+pub const TYPE: usize = 12;
+
+pub const LENGTH: usize = 14;
+
+pub const VALUE: usize = 16;
+
+// The sub-TLV with which the Value of types 2 to 4 begins, counted from the Value's first octet.
+pub const SUB_TLV_TYPE: usize = 0;
+
+pub const SUB_TLV_LENGTH: usize = 2;
+// Octets 0 to 3 of the sub-TLV: type 1, and its length as RFC 8169 gives it, 20.
+pub const SUB_TLV_HEADER: [u8; 4] = *b"\x00\x01\x00\x14";
+
+pub const FLAGS: usize = 4;
+
+pub const PTP_TYPE: usize = 7;
+
+pub const CLOCK_IDENTITY: usize = 8;
+
+pub const PORT_NUMBER: usize = 16;
+
+pub const SEQUENCE_ID: usize = 18;
+
+pub const SUB_TLV_SIZE: usize = 20;
+
+// The carried packet of types 2 to 4, counted from the message's first octet.
+pub const CARRIED: usize = 36;
+
+// The largest message.
+pub const LARGEST: usize = 2048;

@@ -1,0 +1,16 @@
+// RTM messages on the G-ACh (RFC 8169, 4; document 01, The RTM message): their layout, the reader
+// with its sub-TLV reader and the carried packet, and the writer.
+mod fields;
+mod layout;
+mod reader;
+mod writer;
+
+pub use fields::Fields;
+pub use fields::Header;
+pub use fields::SubTlv;
+pub use layout::G_ACH_HEADER;
+pub use reader::Reading;
+pub use reader::carried;
+pub use reader::read;
+pub use writer::Written;
+pub use writer::write;

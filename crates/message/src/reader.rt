@@ -1,0 +1,131 @@
+// Reading: the header, the sub-TLV behind it, and the carried packet.
+use crate::fields::Header;
+use crate::fields::SubTlv;
+use crate::layout;
+ghost use mathlib.Core.Path.{_≡_};
+ghost use lib.ListN.{drop};
+ghost use Rattle.message.specs.Read.{headerOf, subTlvOf, readOf, carriedOf};
+ghost use Rattle.message.specs.Answers.{headerAnswer, subTlvAnswer, readAnswer};
+
+// What a message says, or the number of the refusal.
+pub enum Reading {
+    // Types 1 and 5, which have no sub-TLV.
+    Plain(Header),
+    // Types 2 to 4.
+    Ptp(Header, SubTlv),
+    Refused(u8),
+}
+
+pub enum HeaderReading {
+    Sound(Header),
+    Refused(u8),
+}
+
+pub enum SubTlvReading {
+    Sound(SubTlv),
+    Refused(u8),
+}
+
+// The header, octets 0 to 15: refusals 1 to 6.
+fn read_header(s: &[u8]) -> HeaderReading
+    ensures { λ r. ⌜ headerAnswer r ≡ headerOf (now (s .entry)) ⌝ }
+{
+    if s.len() < layout::VALUE {
+        return HeaderReading::Refused(refusal::TOO_SHORT);
+    }
+    if layout::LARGEST < s.len() {
+        return HeaderReading::Refused(refusal::TOO_LONG);
+    }
+    let first = s[0];
+    if first / 16 != 1 {
+        return HeaderReading::Refused(refusal::NOT_RTM);
+    }
+    if octets::read16(s, layout::CHANNEL_TYPE) != 0x000F {
+        return HeaderReading::Refused(refusal::NOT_RTM);
+    }
+    if first % 16 != 0 {
+        return HeaderReading::Refused(refusal::VERSION);
+    }
+    if octets::read16(s, layout::LENGTH) as usize != s.len() - layout::VALUE {
+        return HeaderReading::Refused(refusal::LENGTH);
+    }
+    let message_type = octets::read16(s, layout::TYPE);
+    if message_type < 1 {
+        return HeaderReading::Refused(refusal::TYPE);
+    }
+    if 5 < message_type {
+        return HeaderReading::Refused(refusal::TYPE);
+    }
+    let pad = octets::read_signed(s, layout::SCRATCH_PAD);
+    HeaderReading::Sound(Header { message_type, pad })
+}
+
+// The sub-TLV at the start of the Value of types 2 to 4: refusals 7 and 8.
+fn read_sub_tlv(value: &[u8]) -> SubTlvReading
+    ensures { λ r. ⌜ subTlvAnswer r ≡ subTlvOf (now (value .entry)) ⌝ }
+{
+    if value.len() < layout::SUB_TLV_SIZE {
+        return SubTlvReading::Refused(refusal::VALUE_SIZE);
+    }
+    if octets::read16(value, layout::SUB_TLV_TYPE) != 1 {
+        return SubTlvReading::Refused(refusal::SUB_TLV);
+    }
+    if octets::read16(value, layout::SUB_TLV_LENGTH) != 20 {
+        return SubTlvReading::Refused(refusal::SUB_TLV);
+    }
+    let flags = value[layout::FLAGS];
+    let ptp_type = value[layout::PTP_TYPE] % 16;
+    let clock = octets::read64(value, layout::CLOCK_IDENTITY);
+    let port = octets::read16(value, layout::PORT_NUMBER);
+    let sequence = octets::read16(value, layout::SEQUENCE_ID);
+    SubTlvReading::Sound(SubTlv {
+        two_step: 128 <= flags,
+        ptp_type,
+        clock,
+        port,
+        sequence,
+    })
+}
+
+// The message's fields, or the first of refusals 1 to 8.
+pub fn read(s: &[u8]) -> Reading
+    ensures { λ r. ⌜ readAnswer r ≡ readOf (now (s .entry)) ⌝ }
+{
+    let header = match read_header(s) {
+        HeaderReading::Sound(header) => header,
+        HeaderReading::Refused(n) => return Reading::Refused(n),
+    };
+    let message_type = header.message_type;
+    if message_type == 1 {
+        if layout::VALUE < s.len() {
+            return Reading::Refused(refusal::VALUE_SIZE);
+        }
+        return Reading::Plain(header);
+    }
+    if message_type == 5 {
+        return Reading::Plain(header);
+    }
+    match read_sub_tlv(after(s, layout::VALUE)) {
+        SubTlvReading::Sound(sub_tlv) => Reading::Ptp(header, sub_tlv),
+        SubTlvReading::Refused(n) => Reading::Refused(n),
+    }
+}
+
+// The part from octet n on; an empty one where n is past the end.
+fn after(s: &[u8], n: usize) -> &[u8]
+    ensures { λ r. ⌜ now r ≡ drop n (now (s .entry)) ⌝ }
+{
+    if n <= s.len() { &s[n..] } else { &s[..0] }
+}
+
+// The carried packet as a part of the message: from octet 36 on, or the whole Value of type 5. It
+// is empty for type 1 and on refusal. Where an empty part lies is left open: it has no octets.
+pub fn carried(s: &[u8]) -> &[u8]
+    ensures { λ r. ⌜ now r ≡ carriedOf (now (s .entry)) ⌝ }
+{
+    match read(s) {
+        Reading::Plain(_) => after(s, layout::VALUE),
+        Reading::Ptp(_, _) => after(s, layout::CARRIED),
+        Reading::Refused(_) => &s[..0],
+    }
+}
