@@ -1,10 +1,10 @@
 -- What is known of the fields of a message that the writer accepts.
 -- Assumes nothing.
-use Prim.Native.Nat.{ℕ, _+_, _≤_}
+use Prim.Native.Nat.{ℕ, _+_, _<_, _≤_}
 use mathlib.Core.Path.{_≡_, refl, sym, ap, _∙_}
 use mathlib.Core.Bool.{Bool, true, false, not, cond, _&&_, false≢true}
 use native.Mathlib.Omega.{arith}
-use borrow.Author.Tests.{leb-true, ltb-false, not-false}
+use borrow.Author.Tests.{le-leb, leb-true, leb-false, ltb-false, not-false}
 use lib.Dec.{ltb, leb, eqb}
 use Rattle.refusal.specs.Answer.{Answer, value, refuse}
 use Rattle.refusal.proofs.Answers.{passes}
@@ -16,11 +16,19 @@ both true true e = (refl, refl)
 both true false e = (refl, e)
 both false b e = (e, absurd (false≢true e))
 
--- the Types with a sub-TLV
+-- the known Types, and those with a sub-TLV
+pub known-types : (t : ℕ) → isType t ≡ true → (1 ≤ t) × (t ≤ 5)
+known-types t p =
+    let b = both (leb 1 t) (leb t 5) p in
+    (leb-true 1 t (b .0), leb-true t 5 (b .1))
+
 pub ptp-types : (t : ℕ) → isPtp t ≡ true → (2 ≤ t) × (t ≤ 4)
 ptp-types t p =
     let b = both (leb 2 t) (leb t 4) p in
     (leb-true 2 t (b .0), leb-true t 4 (b .1))
+
+pub plain-types : (t : ℕ) → isPtp t ≡ false → 2 ≤ t → 4 < t
+plain-types t p h = leb-false t 4 (ap (λ (b : Bool). b && leb t 4) (sym (le-leb 2 t h)) ∙ p)
 
 pub record Accepted (t k carried room n : ℕ) : Type 0 where
   pub known : isType t ≡ true

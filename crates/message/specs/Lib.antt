@@ -1,3 +1,4 @@
 pub mod Answers
 pub mod Read
+pub mod RoundTrip
 pub mod Write
