@@ -6,7 +6,7 @@ use mathlib.Core.Bool.{Bool, true, false, not, cond, _&&_, false≢true}
 use native.Mathlib.Omega.{arith}
 use borrow.Author.Tests.{le-leb, leb-true, leb-false, ltb-false, not-false}
 use lib.Dec.{ltb, leb, eqb}
-use Rattle.refusal.specs.Answer.{Answer, value, refuse}
+use Rattle.refusal.specs.Answer.{value, refuse}
 use Rattle.refusal.proofs.Answers.{passes}
 use Rattle.message.specs.Read.{isType}
 use Rattle.message.specs.Write.{isPtp, carriedAt, fitOf, sizeOf}

@@ -1,13 +1,13 @@
 -- The round trip: the header's reader reads the header's octets, the sub-TLV's reader the sub-TLV's, and the packet is what stands behind them.
 -- Assumes nothing.
-use Prim.Native.Nat.{ℕ, _+_, _-_, _/_, _%_, _<_, _≤_, _^_}
+use Prim.Native.Nat.{ℕ, _+_, _-_, _%_, _<_, _≤_, _^_}
 use mathlib.Core.Path.{_≡_, refl, sym, ap, _∙_}
-use mathlib.Core.Bool.{Bool, true, false, not, cond, _&&_}
-use mathlib.Core.List.{List, [], _∷_, _++_, append-assoc, append-nil}
+use mathlib.Core.Bool.{Bool, true, false, cond, _&&_}
+use mathlib.Core.List.{List, _++_}
 use native.Mathlib.Omega.{arith}
-use borrow.Author.Tests.{lt-ltb, le-ltb, eq-eqb, ne-eqb, eqb-false, leb-true, ltb-false}
+use borrow.Author.Tests.{le-ltb, eq-eqb, ne-eqb, eqb-false, ltb-false}
 use lib.Dec.{ltb, leb, eqb}
-use lib.ListN.{length, getD, take, drop, length-append}
+use lib.ListN.{length, take, drop}
 use lib.Seq.{take-at}
 use mir.Syntax.{w64}
 use mir.Val.{SFits, toZ, ofZ}
@@ -19,7 +19,7 @@ use Rattle.message.specs.declared.fields.Header.{Header}
 use Rattle.message.specs.declared.fields.SubTlv.{SubTlv}
 use Rattle.message.specs.declared.fields.Fields.{Fields}
 use Rattle.message.specs.Read.{Message, plain, ptp, isRtm, version, lengthField, isType, isSubTlv, subTlv, header, headerOf, subTlvOf, messageOf, readOf, carriedBy, carriedOf}
-use Rattle.message.specs.Write.{isPtp, gAchHeader, headerOctets, flagOctets, subTlvOctets, ptpOctets, plainOctets, messageOctets, outputBy, answerOf, writeOf}
+use Rattle.message.specs.Write.{isPtp, gAchHeader, headerOctets, flagOctets, subTlvOctets, ptpOctets, plainOctets, messageOctets, outputBy, writeOf}
 use Rattle.message.specs.RoundTrip.{Sized, reported, RoundTrip}
 use Rattle.message.proofs.Accepted.{Accepted, accepted, known-types, ptp-types, plain-types, ptp-size, plain-size}
 

@@ -4,7 +4,7 @@ use Prim.Native.Nat.{ℕ}
 use mathlib.Core.Path.{_≡_, refl}
 use mathlib.Core.Bool.{Bool, true, false}
 use native.Mathlib.Omega.{arith}
-use Rattle.refusal.specs.Answer.{Answer, value, refused, refuse, andThen}
+use Rattle.refusal.specs.Answer.{Answer, value, refused, refuse}
 
 module _ {A : Type 0} where
   pub not-both : {n : ℕ} {a : A} → refused n ≡ value a → ⊥

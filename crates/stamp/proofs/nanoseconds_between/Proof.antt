@@ -4,7 +4,7 @@ use native.Mathlib.Omega.{arith}
 use Prim.Native.Nat.{_+_, _*_, _-_, _%_}
 use mathlib.Core.Path.{_≡_, ap}
 use borrow.Author.Tests.{lt-ltb, le-ltb}
-use Rattle.refusal.specs.Answer.{Answer, value}
+use Rattle.refusal.specs.Answer.{value}
 use Rattle.stamp.specs.Stamp.{elapsed}
 use Rattle.stamp.proofs.Cycle.{by-parts}
 use borrow.Author.Needs.{needs}

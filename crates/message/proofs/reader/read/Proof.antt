@@ -9,7 +9,7 @@ use lib.ListN.{length, drop, length-drop}
 use Rattle.refusal.specs.Answer.{Answer, value, andThen}
 use Rattle.message.specs.declared.fields.Header.{Header}
 use Rattle.message.specs.declared.fields.SubTlv.{SubTlv}
-use Rattle.message.specs.Read.{Message, ptp, headerOf, subTlvOf, messageOf, messageValue, readOf}
+use Rattle.message.specs.Read.{Message, ptp, subTlvOf, messageOf, messageValue, readOf}
 use Rattle.message.specs.Answers.{headerAnswer, subTlvAnswer}
 use borrow.Author.Needs.{needs}
 use Rattle.message.proofs.reader.read.Statement.{statement}

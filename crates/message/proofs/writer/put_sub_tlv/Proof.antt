@@ -1,9 +1,8 @@
 -- `put_sub_tlv` meets its contract: each field is stored behind those before it.
 -- Assumes nothing.
 use native.Mathlib.Omega.{arith}
-use Prim.Native.Nat.{ℕ}
 use mathlib.Core.Path.{refl}
-use mathlib.Core.List.{List, [], _∷_, _++_}
+use mathlib.Core.List.{[], _++_}
 use Rattle.octets.specs.Octets.{octets}
 use Rattle.octets.proofs.Stores.{next}
 use Rattle.message.specs.Write.{flagOctets}

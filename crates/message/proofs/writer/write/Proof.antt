@@ -8,8 +8,8 @@ use mathlib.Core.List.{List, _++_}
 use lib.ListN.{length, drop}
 use Rattle.refusal.specs.Answer.{value, refused}
 use Rattle.message.specs.declared.fields.Fields.{Fields}
-use Rattle.message.specs.declared.writer.Written.the-variants.{Size, Refused}
-use Rattle.message.specs.Write.{isPtp, ptpOctets, plainOctets, messageOctets, answerOf, writeOf}
+use Rattle.message.specs.declared.writer.Written.the-variants.{Size}
+use Rattle.message.specs.Write.{isPtp, messageOctets, answerOf, writeOf}
 use Rattle.message.specs.Answers.{writtenAnswer, written}
 use Rattle.message.proofs.Accepted.{Accepted, accepted, ptp-size, plain-size}
 use borrow.Author.Needs.{needs}
