@@ -17,7 +17,24 @@ pub const VALUE_SIZE: u8 = 7;
 
 pub const SUB_TLV: u8 = 8;
 
-// Writing.
+// A residence, and a sum of pads.
+pub const INVALID_STAMP: u8 = 9;
+
+pub const TOO_LONG_RESIDENCE: u8 = 10;
+
+pub const SUM_OUT_OF_RANGE: u8 = 11;
+
+// An output that is lent to be written.
 pub const OUTPUT_TOO_SMALL: u8 = 12;
 
+// A two-step node.
+pub const ALREADY_WAITING: u8 = 13;
+
+pub const NO_EMPTY_SLOT: u8 = 14;
+
+pub const NO_RECORD: u8 = 15;
+
+pub const NOT_FOR_TWO_STEP: u8 = 16;
+
+// Writing a message.
 pub const PTP_TYPE: u8 = 17;

@@ -1,0 +1,216 @@
+// The table of waiting records, 16 slots by value (document 01: "The table is handed in and handed
+// back by each operation"). Every table value is good input.
+use records::Identity;
+use records::Record;
+ghost use mathlib.Core.Path.{_≡_};
+ghost use lib.ListN.{replicate};
+ghost use Rattle.records.specs.Slots.{empty, holds, zeros, lowest, aged};
+ghost use Rattle.records.specs.Node.{tableAnswer};
+ghost use Rattle.records.specs.Node.{collect as collect·request};
+ghost use Rattle.table.specs.Table.{addOf, collectOf, tickOf, foundAnswer, entered, taken, counted};
+
+pub struct Table {
+    pub slots: [Record; 16],
+}
+
+// A record waits, or the number of the refusal.
+pub enum Entry {
+    Waiting,
+    Refused(u8),
+}
+
+// The table after a record was added, and the answer.
+pub struct Entered {
+    pub table: Table,
+    pub answer: Entry,
+}
+
+// A record's residence in pad units, or the number of the refusal.
+pub enum Found {
+    Residence(u64),
+    Refused(u8),
+}
+
+// The table after a record was collected, and the answer.
+pub struct Taken {
+    pub table: Table,
+    pub answer: Found,
+}
+
+// The table after a tick, and how many slots it emptied.
+pub struct Ticked {
+    pub table: Table,
+    pub emptied: u8,
+}
+
+fn zero_slot() -> Record
+    ensures { λ r. ⌜ r ≡ zeros ⌝ }
+{
+    Record {
+        clock: 0,
+        port: 0,
+        sequence: 0,
+        residence: 0,
+        wait: 0,
+    }
+}
+
+// The slot holds a record with this identity.
+fn is_of(slot: Record, identity: Identity) -> bool
+    ensures { λ r. ⌜ r ≡ holds identity slot ⌝ }
+{
+    if slot.wait == 0 {
+        return false;
+    }
+    if identity.clock != slot.clock {
+        return false;
+    }
+    if identity.port != slot.port {
+        return false;
+    }
+    identity.sequence == slot.sequence
+}
+
+// A slot after a tick.
+fn age(slot: Record) -> Record
+    ensures { λ r. ⌜ r ≡ aged slot ⌝ }
+{
+    let wait = slot.wait;
+    if wait == 0 {
+        return slot;
+    }
+    if wait == 1 {
+        return zero_slot();
+    }
+    let mut older = slot;
+    older.wait = wait - 1;
+    older
+}
+
+impl Table {
+    // A table with no records: all zeros.
+    pub fn new() -> Table
+        ensures { λ r. ⌜ r .slots ≡ replicate 16 zeros ⌝ }
+    {
+        let slot = zero_slot();
+        Table { slots: [slot; 16] }
+    }
+
+    // The lowest slot that holds a record with this identity; 16 where none does.
+    fn place(self, identity: Identity) -> usize
+        ensures { λ r. ⌜ r ≡ lowest (holds identity) (self .slots) ⌝ }
+    {
+        let slots = self.slots;
+        let mut i: usize = 0;
+        while i < 16 {
+            let slot = slots[i];
+            if is_of(slot, identity) {
+                return i;
+            }
+            i += 1;
+        }
+        16
+    }
+
+    // The lowest empty slot; 16 where none is.
+    fn vacancy(self) -> usize
+        ensures { λ r. ⌜ r ≡ lowest empty (self .slots) ⌝ }
+    {
+        let slots = self.slots;
+        let mut i: usize = 0;
+        while i < 16 {
+            let slot = slots[i];
+            if slot.wait == 0 {
+                return i;
+            }
+            i += 1;
+        }
+        16
+    }
+
+    // The residence of the record with this identity; refusal 15 where there is none.
+    pub fn find(self, identity: Identity) -> Found
+        ensures { λ r. ⌜ foundAnswer r ≡ tableAnswer (collect·request identity) (self .slots) ⌝ }
+    {
+        let at = self.place(identity);
+        if 16 <= at {
+            return Found::Refused(refusal::NO_RECORD);
+        }
+        let slots = self.slots;
+        let slot = slots[at];
+        Found::Residence(slot.residence)
+    }
+
+    // Puts a record with a wait of 3 into the lowest empty slot; refusal 13 where one with its
+    // identity waits already, 14 where no slot is empty.
+    pub fn add(self, identity: Identity, residence: u64) -> Entered
+        ensures { λ r. ⌜ entered r ≡ addOf identity residence (self .slots) ⌝ }
+    {
+        if self.place(identity) < 16 {
+            return Entered {
+                table: self,
+                answer: Entry::Refused(refusal::ALREADY_WAITING),
+            };
+        }
+        let at = self.vacancy();
+        if 16 <= at {
+            return Entered {
+                table: self,
+                answer: Entry::Refused(refusal::NO_EMPTY_SLOT),
+            };
+        }
+        let mut slots = self.slots;
+        slots[at] = Record {
+            clock: identity.clock,
+            port: identity.port,
+            sequence: identity.sequence,
+            residence,
+            wait: 3,
+        };
+        let table = Table { slots };
+        Entered {
+            table,
+            answer: Entry::Waiting,
+        }
+    }
+
+    // Takes the record with this identity out; refusal 15 where there is none.
+    pub fn collect(self, identity: Identity) -> Taken
+        ensures { λ r. ⌜ taken r ≡ collectOf identity (self .slots) ⌝ }
+    {
+        let at = self.place(identity);
+        if 16 <= at {
+            return Taken {
+                table: self,
+                answer: Found::Refused(refusal::NO_RECORD),
+            };
+        }
+        let mut slots = self.slots;
+        let slot = slots[at];
+        slots[at] = zero_slot();
+        let table = Table { slots };
+        Taken {
+            table,
+            answer: Found::Residence(slot.residence),
+        }
+    }
+
+    // Lowers every wait above 0 by one, empties the slots whose wait reaches 0, and counts them.
+    pub fn tick(self) -> Ticked
+        ensures { λ r. ⌜ counted r ≡ tickOf (self .slots) ⌝ }
+    {
+        let mut slots = self.slots;
+        let mut emptied: u8 = 0;
+        let mut i: usize = 0;
+        while i < 16 {
+            let slot = slots[i];
+            if slot.wait == 1 {
+                emptied += 1;
+            }
+            slots[i] = age(slot);
+            i += 1;
+        }
+        let table = Table { slots };
+        Ticked { table, emptied }
+    }
+}
