@@ -114,7 +114,7 @@ pub fn octets_signed(z: i64) -> [u8; 8]
 }
 
 // The signed number whose two's complement is x.
-fn signed(x: u64) -> i64
+pub fn signed(x: u64) -> i64
     ensures { λ r. ⌜ r ≡ toZ w64 x ⌝ }
 {
     if x < 0x8000_0000_0000_0000 {
@@ -125,7 +125,7 @@ fn signed(x: u64) -> i64
 }
 
 // The two's complement of z.
-fn unsigned(z: i64) -> u64
+pub fn unsigned(z: i64) -> u64
     ensures { λ r. ⌜ r ≡ ofZ w64 z ⌝ }
 {
     if z >= 0 {
