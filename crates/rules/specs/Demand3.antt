@@ -1,0 +1,66 @@
+-- Demand 3: two theorems about whole lists of node calls and ticks, and how long a record waits.
+use Prim.Native.Nat.{ℕ, _+_, _<_, _≤_}
+use mathlib.Core.Path.{_≡_}
+use mathlib.Core.Bool.{Bool, true}
+use mathlib.Core.List.{List}
+use mathlib.Core.Option.{Option, none, some}
+use lib.IntN.{ℤ, pos, _+ℤ_}
+use lib.ListN.{getElem?, take}
+use Rattle.refusal.specs.Answer.{value, refused}
+use Rattle.residence.specs.Residence.{acceptedOf}
+use Rattle.records.specs.declared.Identity.{Identity}
+use Rattle.records.specs.Slots.{Slots, find}
+use Rattle.records.specs.Node.{Event, call, replied, run, final}
+use Rattle.records.specs.Order.{ticks, OrderFree}
+use Rattle.rules.specs.Change.{padOf}
+use Rattle.rules.specs.Rules.{sync, followUp, kindOf, kindIdentity, twoStep, Call, waiting, added, Reply, asItCame, addToPad, rules}
+use Rattle.rules.specs.Path.{Stop, Apart, Every, SyncWay, FollowUps, residences}
+
+-- First half. "Then, whatever other calls, refused ones too, and ticks those nodes get, the sum of the final pads is the sum of the
+-- starting pads plus every stay of the Sync, a missing Follow_Up counting 0." The sums are of whole numbers; the path has any
+-- length, also none. That the Follow_Up reaches each node after the Sync and before its record there ages out need not be asked:
+-- a call on it that is early or late is refused with 15, and `Visit` has that no call on the two is refused.
+abbrev pub PathSum : Type 0
+PathSum =
+    (q : Identity) (s : Bool) (start last : List ℕ) (path : List Stop) (first second : ℤ)
+    → kindOf start ≡ sync q s
+    → Every (Apart q) path
+    → SyncWay start path last
+    → FollowUps q s path first second
+    → padOf last +ℤ second ≡ padOf start +ℤ first +ℤ pos (residences path)
+
+-- Second half. "take every list of node calls, refused ones too, and ticks, from any table, and every other order of it that keeps
+-- each identity's order and each call between the same ticks. If neither refuses a call for want of a slot, the two give equal
+-- answers, equal octets and, slots aside, equal records."
+abbrev pub OrderDoesNotMatter : Type 0
+OrderDoesNotMatter = OrderFree rules
+
+-- The Sync's call at place i of a list was answered "waiting", and the Follow_Up's call at place j is the next of the identity.
+pub record Waiting (t : Slots) (es : List (Event Call)) (q : Identity) (u i j : ℕ) (d : Call) : Type 0 where
+  pub handed : Call
+  pub here : getElem? es i ≡ some (call handed)
+  pub two-step : handed .mode ≡ twoStep
+  pub is-sync : kindOf (handed .message) ≡ sync q true
+  pub units : acceptedOf (handed .residence) ≡ value u
+  pub outcome : getElem? (run rules t es) i ≡ some (replied (asItCame handed (value waiting)))
+  pub then : i < j
+  pub there : getElem? es j ≡ some (call d)
+  pub two-step-too : d .mode ≡ twoStep
+  pub is-follow-up : kindOf (d .message) ≡ followUp q
+  pub between : (k : ℕ) (c : Call) → i < k → k < j → getElem? es k ≡ some (call c) → kindIdentity (kindOf (c .message)) ≡ some q → ⊥
+
+-- up to the second tick the Follow_Up is added to, with the Sync's residence, or refused with 11 where the sum does not fit
+abbrev pub AddedInTime : Type 0
+AddedInTime =
+    (t : Slots) (es : List (Event Call)) (q : Identity) (u i j : ℕ) (d : Call)
+    → Waiting t es q u i j d
+    → ticks j es ≤ ticks i es + 2
+    → getElem? (run rules t es) j ≡ some (replied (addToPad d added u))
+
+-- "A record ages out at the third tick after the Sync's call at that node.": the record is gone, and the Follow_Up refused with 15
+abbrev pub GoneAtThirdTick : Type 0
+GoneAtThirdTick =
+    (t : Slots) (es : List (Event Call)) (q : Identity) (u i j : ℕ) (d : Call)
+    → Waiting t es q u i j d
+    → ticks i es + 3 ≤ ticks j es
+    → (find q (final rules t (take j es)) ≡ none) × (getElem? (run rules t es) j ≡ some (replied (asItCame d (refused 15))))

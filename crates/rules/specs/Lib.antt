@@ -1,0 +1,4 @@
+pub mod Change
+pub mod Rules
+pub mod Path
+pub mod Demand3

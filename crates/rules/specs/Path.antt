@@ -1,0 +1,110 @@
+-- The path of one Sync and its Follow_Up (demand 3, first half; document 01, "On the path each node has such a list ..").
+use Prim.Native.Nat.{ℕ, _+_}
+use mathlib.Core.Path.{_≡_}
+use mathlib.Core.Bool.{Bool, true, false}
+use mathlib.Core.List.{List, [], _∷_, _++_, List·Permᴰ}
+use mathlib.Core.Logic.{_⊎_}
+use mathlib.Core.Option.{Option, none, some}
+use lib.IntN.{ℤ, pos, _+ℤ_}
+use lib.ListN.{getElem?, take}
+use Rattle.refusal.specs.Answer.{Answer, value, refused}
+use Rattle.residence.specs.Residence.{acceptedOf}
+use Rattle.records.specs.declared.Identity.{Identity}
+use Rattle.records.specs.Slots.{Slots, find}
+use Rattle.records.specs.Node.{Event, tick, call, Result, replied, run}
+use Rattle.rules.specs.Change.{padOf}
+use Rattle.rules.specs.Rules.{sync, followUp, kindOf, kindIdentity, Mode, Call, Word, created, Reply, rules}
+
+-- A node of the path: "each in one fixed mode with a table of its own", its list of calls and ticks, and the places in it of the
+-- Sync's call and, where the Follow_Up crosses this node, of the Follow_Up's.
+pub record Stop : Type 0 where
+  pub mode : Mode
+  pub table : Slots
+  pub events : List (Event Call)
+  pub syncPlace : ℕ
+  pub followUpPlace : Option ℕ
+
+-- what came of the call at place k of the node's whole list
+abbrev pub ReplyAt : Stop → ℕ → Reply → Type 0
+ReplyAt n k r = getElem? (run rules (n .table) (n .events)) k ≡ some (replied r)
+
+-- The call at place k hands in the octets m, in this node's mode; it is not refused, and r comes of it.
+pub record Visit (n : Stop) (k : ℕ) (m : List ℕ) (r : Reply) : Type 0 where
+  pub handed : Call
+  pub here : getElem? (n .events) k ≡ some (call handed)
+  pub mode : handed .mode ≡ n .mode
+  pub octets : handed .message ≡ m
+  pub outcome : ReplyAt n k r
+  pub unrefused : (a : ℕ) → r .answer ≡ refused a → ⊥
+
+-- "The list's starting table holds no record with the Sync's port and sequence, and no message in the list except the Sync and
+-- the Follow_Up bears them." Only the identity is excluded: an unreadable message, or one of another PTPType, may stand there.
+pub record Apart (q : Identity) (n : Stop) : Type 0 where
+  pub free : find q (n .table) ≡ none
+  pub others :
+      (k : ℕ) (c : Call)
+      → getElem? (n .events) k ≡ some (call c)
+      → kindIdentity (kindOf (c .message)) ≡ some q
+      → (k ≡ n .syncPlace) ⊎ (some k ≡ n .followUpPlace)
+
+abbrev pub Every : (Stop → Type 0) → List Stop → Type 0
+Every P [] = Unit {0}
+Every P (n ∷ ns) = P n × Every P ns
+
+-- "The Sync takes the nodes in the path's order", and "comes to a node with the octets that the node before left": it starts
+-- with the octets s and ends with the last ones
+pub data SyncWay : List ℕ → List Stop → List ℕ → Type 0 where
+  done : {s : List ℕ} → SyncWay s [] s
+  cross : {n : Stop} {ns : List Stop} {s last : List ℕ} {r : Reply} → Visit n (n .syncPlace) s r → SyncWay (r .message) ns last → SyncWay s (n ∷ ns) last
+
+-- the Follow_Up likewise, over its nodes in its own order
+pub data FollowUpWay : List ℕ → List Stop → List ℕ → Type 0 where
+  done : {f : List ℕ} → FollowUpWay f [] f
+  cross :
+      {n : Stop} {ns : List Stop} {f last : List ℕ} {r : Reply} (k : ℕ)
+      → n .followUpPlace ≡ some k
+      → Visit n k f r
+      → FollowUpWay (r .message) ns last
+      → FollowUpWay f (n ∷ ns) last
+
+-- The Follow_Up of a Sync with this S over a path, by its starting pad and its final one.
+pub data FollowUps (q : Identity) : Bool → List Stop → ℤ → ℤ → Type 0 where
+  -- "With S set, its Follow_Up crosses the same nodes once each", in any order; it "is any readable message of PTPType 8 with
+  -- that port and sequence"
+  existing :
+      {ns fs : List Stop} {f last : List ℕ}
+      → kindOf f ≡ followUp q
+      → List·Permᴰ fs ns
+      → FollowUpWay f fs last
+      → FollowUps q true ns (padOf f) (padOf last)
+  -- "With S clear it has none until a node creates one, its starting pad counted as 0, which then crosses the nodes after", in
+  -- any order; "a created one leaves its node as the 36 octets written"
+  born :
+      (before : List Stop) (n : Stop) {after fs : List Stop} {r : Reply} {last : List ℕ}
+      → ReplyAt n (n .syncPlace) r
+      → r .answer ≡ value created
+      → List·Permᴰ fs after
+      → FollowUpWay (take 36 (r .output)) fs last
+      → FollowUps q false (before ++ n ∷ after) (pos 0) (padOf last)
+  -- "a missing Follow_Up counting 0": no node creates one
+  never :
+      {ns : List Stop}
+      → Every (λ n. (r : Reply) → ReplyAt n (n .syncPlace) r → r .answer ≡ value created → ⊥) ns
+      → FollowUps q false ns (pos 0) (pos 0)
+
+-- "the stays those of the Sync's calls in pad units"
+abbrev pub unitsOf : Answer ℕ → ℕ
+unitsOf (value u) = u
+unitsOf (refused n) = 0
+
+abbrev pub unitsIn : Option (Event Call) → ℕ
+unitsIn none = 0
+unitsIn (some tick) = 0
+unitsIn (some (call c)) = unitsOf (acceptedOf (c .residence))
+
+abbrev pub residenceAt : Stop → ℕ
+residenceAt n = unitsIn (getElem? (n .events) (n .syncPlace))
+
+abbrev pub residences : List Stop → ℕ
+residences [] = 0
+residences (n ∷ ns) = residenceAt n + residences ns
