@@ -1,2 +1,3 @@
 pub mod Accepted
 pub mod RoundTrip
+pub mod Sound

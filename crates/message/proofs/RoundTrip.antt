@@ -21,14 +21,8 @@ use Rattle.message.specs.declared.fields.Fields.{Fields}
 use Rattle.message.specs.Read.{Message, plain, ptp, isRtm, version, lengthField, isType, isSubTlv, subTlv, header, headerOf, subTlvOf, messageOf, readOf, carriedBy, carriedOf}
 use Rattle.message.specs.Write.{isPtp, gAchHeader, headerOctets, flagOctets, subTlvOctets, ptpOctets, plainOctets, messageOctets, outputBy, writeOf}
 use Rattle.message.specs.RoundTrip.{Sized, reported, RoundTrip}
+use Rattle.message.proofs.Sound.{header-taken, sub-tlv-taken}
 use Rattle.message.proofs.Accepted.{Accepted, accepted, known-types, ptp-types, plain-types, ptp-size, plain-size}
-
--- a message whose header has nothing to refuse
-sound : (s : List ℕ) (h : Header) → 16 ≤ length s → length s ≤ 2048 → isRtm s ≡ true → version s ≡ 0 → lengthField s ≡ length s - 16 → header s ≡ h → isType (h .«message_type») ≡ true
-    → headerOf s ≡ value h
-sound s h long short rtm zero size same known =
-    let k : isType (header s .«message_type») ≡ true = ap (λ (g : Header). isType (g .«message_type»)) same ∙ known in
-    simp (le-ltb (length s) 16 long, le-ltb 2048 (length s) short, rtm, eq-eqb (version s) 0 zero, eq-eqb (lengthField s) (length s - 16) size, k) (ap value same)
 
 module _ (h : Header) (v : List ℕ) (fits : SFits w64 (h .pad)) (known : isType (h .«message_type») ≡ true) (short : length v ≤ 2032) where
   header-pad : signedNumber (headerOctets h (length v) ++ v) 4 ≡ h .pad
@@ -45,13 +39,19 @@ module _ (h : Header) (v : List ℕ) (fits : SFits w64 (h .pad)) (known : isType
 
   pub header-read : headerOf (headerOctets h (length v) ++ v) ≡ value h
   header-read =
-      sound (headerOctets h (length v) ++ v) h (omega arith) (omega arith) refl refl (header-length ∙ omega arith)
-      (λ i. record { «message_type» = header-type i; pad = header-pad i }) known
+      let same : header (headerOctets h (length v) ++ v) ≡ h = λ i. record { «message_type» = header-type i; pad = header-pad i } in
+      header-taken (headerOctets h (length v) ++ v)
+      (record {
+        long = omega arith;
+        short = omega arith;
+        rtm = refl;
+        current = refl;
+        size = header-length ∙ omega arith;
+        known = ap (λ (g : Header). isType (g .«message_type»)) same ∙ known;
+      })
+      ∙ ap value same
 
--- a Value whose sub-TLV has nothing to refuse
-sound-sub-tlv : (v : List ℕ) (t : SubTlv) → 20 ≤ length v → isSubTlv v ≡ true → subTlv v ≡ t → subTlvOf v ≡ value t
-sound-sub-tlv v t long is same = simp (le-ltb (length v) 20 long, is) (ap value same)
-
+-- the S bit that was written
 flag : (s : Bool) → leb 128 (cond s 128 0) ≡ s
 flag true = refl
 flag false = refl
@@ -73,8 +73,9 @@ module _ (t : SubTlv) (v : List ℕ) (kind : t .«ptp_type» ≤ 15) (clock : t 
 
   pub sub-tlv-read : subTlvOf (subTlvOctets t ++ v) ≡ value t
   sub-tlv-read =
-      sound-sub-tlv (subTlvOctets t ++ v) t (omega arith) refl
-      (λ i. record { «two_step» = flag (t .«two_step») i; «ptp_type» = sub-tlv-kind i; clock = sub-tlv-clock i; port = sub-tlv-port i; sequence = sub-tlv-sequence i })
+      let same : subTlv (subTlvOctets t ++ v) ≡ t =
+      λ i. record { «two_step» = flag (t .«two_step») i; «ptp_type» = sub-tlv-kind i; clock = sub-tlv-clock i; port = sub-tlv-port i; sequence = sub-tlv-sequence i } in
+      sub-tlv-taken (subTlvOctets t ++ v) (omega arith) refl ∙ ap value same
 
 -- whole messages
 module _ (f : Fields) (v : List ℕ) (room n : ℕ) (w : Sized f) (a : Accepted (f .header .«message_type») (f .«sub_tlv» .«ptp_type») (length v) room n) where

@@ -1,3 +1,4 @@
 pub mod Halves
 pub mod Numbers
+pub mod Puts
 pub mod Stores

@@ -1,0 +1,24 @@
+-- A residence that a node takes is below the limit.
+-- Assumes nothing.
+use Prim.Native.Nat.{ℕ, _<_}
+use mathlib.Core.Path.{_≡_, ap, _∙_}
+use native.Mathlib.Omega.{arith}
+use borrow.Author.Tests.{leb-false}
+use lib.Dec.{leb}
+use Rattle.refusal.specs.Answer.{Answer, value, refused, refuse, andThen}
+use Rattle.refusal.proofs.Answers.{not-both, passes}
+use Rattle.residence.specs.declared.Residence.{Residence}
+use Rattle.residence.specs.Residence.{residenceAnswer, limit, acceptedOf}
+
+pub below-limit : (r : Residence) (u : ℕ) → acceptedOf r ≡ value u → u < limit
+below-limit r u e = go (residenceAnswer r) e
+  where
+    go : (a : Answer ℕ) → andThen a (λ v. refuse 10 (leb limit v) (value v)) ≡ value u → u < limit
+    go (value v) p =
+        let z = passes 10 (leb limit v) (value v) u p in
+        let same : v ≡ u = out (z .1) in
+        omega (arith, leb-false limit v (z .0))
+      where
+        out : value v ≡ value u → v ≡ u
+        out x = cc
+    go (refused n) p = absurd (not-both p)

@@ -1,0 +1,3 @@
+pub mod Bearing
+pub mod Changes
+pub mod Calls
