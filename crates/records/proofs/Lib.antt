@@ -1,0 +1,4 @@
+pub mod Holding
+pub mod View
+pub mod Effects
+pub mod Places
