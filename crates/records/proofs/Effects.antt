@@ -13,7 +13,7 @@ use Rattle.records.specs.declared.Identity.{Identity}
 use Rattle.records.specs.declared.Record.{Record}
 use Rattle.records.specs.Slots.{Slots, empty, lowest, find, fresh, vacant, addAnswer, removeFrom, ticked}
 use Rattle.records.specs.Node.{Request, nothing, add, collect, tableAnswer, addLeaves, collectLeaves, tableAfter, asked}
-use Rattle.records.proofs.View.{view, viewAged, find-view, view-remove-own, view-remove-other, view-ticked, view-add-own, view-add-other}
+use Rattle.records.proofs.View.{view, find-view, view-remove-own, view-remove-other, view-ticked, view-add-own, view-add-other}
 
 -- a request for another identity
 pub request-other :

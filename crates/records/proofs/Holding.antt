@@ -4,12 +4,12 @@ use Prim.Native.Nat.{ℕ, zero, suc}
 use mathlib.Core.Path.{_≡_, refl, sym, _∙_}
 use mathlib.Core.Bool.{Bool, true, false, not, _&&_, and-true, and-false, true≢false, false≢true}
 use lib.Dec.{eqb, eqb·suc-zero}
-use borrow.Author.Tests.{eqb-true, eq-eqb, not-true}
+use borrow.Author.Tests.{eqb-true, eq-eqb}
 use Rattle.records.specs.declared.Identity.{Identity}
 use Rattle.records.specs.declared.Record.{Record}
 use Rattle.records.specs.Slots.{identityOf, same, empty, holds, zeros, agedBy, aged}
 
-pub and-both : (a b : Bool) → a && b ≡ true → (a ≡ true) × (b ≡ true)
+and-both : (a b : Bool) → a && b ≡ true → (a ≡ true) × (b ≡ true)
 and-both true b e = (refl, e)
 and-both false b e = absurd (false≢true e)
 
@@ -47,10 +47,6 @@ holds-empty q s e = rw e
 pub holds-self : (s : Record) → empty s ≡ false → holds (identityOf s) s ≡ true
 unfolding holds
 holds-self s e = rw (e, same-refl (identityOf s))
-
-pub holds-full : (q : Identity) (s : Record) → holds q s ≡ true → empty s ≡ false
-unfolding holds
-holds-full q s e = not-true (empty s) (and-both (not (empty s)) (same q (identityOf s)) e .0)
 
 holds-sound : (q : Identity) (s : Record) → holds q s ≡ true → q ≡ identityOf s
 unfolding holds

@@ -2,7 +2,7 @@
 -- of every identity have as many records that pass a test.
 -- Assumes nothing.
 use Prim.Native.Nat.{ℕ, suc, _<_}
-use mathlib.Core.Path.{_≡_, refl, sym, ap, _∙_}
+use mathlib.Core.Path.{_≡_, refl, sym, _∙_}
 use mathlib.Core.Bool.{Bool, true, false, cond, not, _&&_}
 use mathlib.Core.List.{[], _∷_, tail, head?, nil≢cons, cons≢nil, head-eq-of-cons-eq}
 use mathlib.Core.Option.{none, Option·some-ne-none}
@@ -11,7 +11,7 @@ use lib.ListN.{length, getElem?, set}
 use Rattle.records.specs.declared.Identity.{Identity}
 use Rattle.records.specs.declared.Record.{Record}
 use Rattle.records.specs.Slots.{Slots, identityOf, empty, holds, zeros, lowest, find, fresh, addTo, removeFrom, aged, ticked, count}
-use Rattle.records.proofs.Holding.{decide, holds-zeros, holds-empty, holds-self, holds-full, holds-other, holds-aged}
+use Rattle.records.proofs.Holding.{decide, holds-zeros, holds-empty, holds-self, holds-other, holds-aged}
 
 abbrev pub view : Identity → Slots → Slots
 view q [] = []
