@@ -3,12 +3,12 @@
 use Prim.Native.Nat.{ℕ, _+_, _<_, _≤_}
 use mathlib.Core.Path.{_≡_}
 use mathlib.Core.List.{List}
-use mathlib.Core.Option.{Option, none, some}
+use mathlib.Core.Option.{none, some}
 use lib.ListN.{getElem?, take}
-use Rattle.refusal.specs.Answer.{value, refused}
+use Rattle.refusal.specs.Answer.{value}
 use Rattle.records.specs.declared.Identity.{Identity}
 use Rattle.records.specs.Slots.{Slots, find}
-use Rattle.records.specs.Node.{Node, Request, add, collect, tableAnswer, Event, call, final}
+use Rattle.records.specs.Node.{Node, add, collect, tableAnswer, Event, call, final}
 use Rattle.records.specs.Order.{ticks}
 
 -- a call at place i of a run puts in a record of identity q and residence u, and no other call of that identity comes before place j

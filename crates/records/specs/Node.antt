@@ -7,8 +7,7 @@ use mathlib.Core.List.{List, [], _∷_}
 use mathlib.Core.Option.{Option, none, some}
 use Rattle.refusal.specs.Answer.{Answer, value, refused}
 use Rattle.records.specs.declared.Identity.{Identity}
-use Rattle.records.specs.declared.Record.{Record}
-use Rattle.records.specs.Slots.{Slots, find, found, vacant, addAnswer, addTo, collectAnswer, removeFrom, ticked, emptied}
+use Rattle.records.specs.Slots.{Slots, find, vacant, addAnswer, addTo, collectAnswer, removeFrom, ticked, emptied}
 
 -- what a call asks of the table
 pub data Request : Type 0 where

@@ -2,16 +2,16 @@
 -- orders ..").
 use Prim.Native.Nat.{ℕ, zero, suc, _<_}
 use mathlib.Core.Path.{_≡_}
-use mathlib.Core.Bool.{Bool, true, false, _&&_}
+use mathlib.Core.Bool.{Bool, false, _&&_}
 use mathlib.Core.List.{List, [], _∷_}
-use mathlib.Core.Option.{Option, none, some}
+use mathlib.Core.Option.{some}
 use lib.Dec.{eqb}
 use lib.ListN.{length, getElem?}
 use Rattle.refusal.specs.Answer.{refused}
 use Rattle.records.specs.declared.Identity.{Identity}
 use Rattle.records.specs.declared.Record.{Record}
 use Rattle.records.specs.Slots.{Slots, identityOf, same, empty, count}
-use Rattle.records.specs.Node.{Node, Lawful, Event, tick, call, Result, told, replied, run, final}
+use Rattle.records.specs.Node.{Node, Event, tick, call, Result, told, replied, run, final}
 
 -- the ticks among the first i events
 abbrev pub ticks : {C : Type 0} → ℕ → List (Event C) → ℕ

@@ -1,6 +1,6 @@
 -- The table of waiting records: its slots, and what adding, collecting and a tick do (document 01, What a node does).
 -- "The table has 16 slots"; nothing here asks for that number.
-use Prim.Native.Nat.{ℕ, zero, suc, _-_}
+use Prim.Native.Nat.{ℕ, zero, suc}
 use mathlib.Core.Bool.{Bool, true, false, cond, not, _&&_}
 use mathlib.Core.List.{List, [], _∷_, map}
 use mathlib.Core.Option.{Option, none, some}

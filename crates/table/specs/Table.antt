@@ -3,7 +3,7 @@ use Prim.Native.Nat.{ℕ}
 use mathlib.Core.Bool.{true}
 use Rattle.refusal.specs.Answer.{Answer, value, refused}
 use Rattle.records.specs.declared.Identity.{Identity}
-use Rattle.records.specs.Slots.{Slots, find, collectAnswer, ticked, emptied}
+use Rattle.records.specs.Slots.{Slots, ticked, emptied}
 use Rattle.records.specs.Node.{Request, add, collect, tableAnswer, tableAfter}
 use Rattle.table.specs.declared.Entry.{Entry}
 use Rattle.table.specs.declared.Entry.the-variants as entry

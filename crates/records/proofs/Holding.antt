@@ -1,0 +1,73 @@
+-- The test of identities is equality, and so a slot holds a record of one identity at most; an empty slot holds none.
+-- Assumes nothing.
+use Prim.Native.Nat.{ℕ, zero, suc}
+use mathlib.Core.Path.{_≡_, refl, sym, _∙_}
+use mathlib.Core.Bool.{Bool, true, false, not, _&&_, and-true, and-false, true≢false, false≢true}
+use lib.Dec.{eqb, eqb·suc-zero}
+use borrow.Author.Tests.{eqb-true, eq-eqb}
+use Rattle.records.specs.declared.Identity.{Identity}
+use Rattle.records.specs.declared.Record.{Record}
+use Rattle.records.specs.Slots.{identityOf, same, empty, holds, zeros, agedBy, aged}
+
+and-both : (a b : Bool) → a && b ≡ true → (a ≡ true) × (b ≡ true)
+and-both true b e = (refl, e)
+and-both false b e = absurd (false≢true e)
+
+same-refl : (q : Identity) → same q q ≡ true
+unfolding same
+same-refl q = simp (eq-eqb (q .clock) (q .clock) refl, eq-eqb (q .port) (q .port) refl, eq-eqb (q .sequence) (q .sequence) refl)
+
+same-sound : (p q : Identity) → same p q ≡ true → p ≡ q
+unfolding same
+same-sound p q e =
+    let c = and-both (eqb (p .clock) (q .clock)) (eqb (p .port) (q .port) && eqb (p .sequence) (q .sequence)) e in
+    let d = and-both (eqb (p .port) (q .port)) (eqb (p .sequence) (q .sequence)) (c .1) in
+    λ i.
+    record {
+      clock = eqb-true (p .clock) (q .clock) (c .0) i;
+      port = eqb-true (p .port) (q .port) (d .0) i;
+      sequence = eqb-true (p .sequence) (q .sequence) (d .1) i;
+    }
+
+pub decide : (p q : Identity) → Dec (p ≡ q)
+decide p q = go (same p q) refl
+  where
+    go : (b : Bool) → same p q ≡ b → Dec (p ≡ q)
+    go true e = yes (same-sound p q e)
+    go false e = no (λ h. true≢false (sym (same-refl q) ∙ (rw h at e)))
+
+pub holds-zeros : (q : Identity) → holds q zeros ≡ false
+unfolding holds
+holds-zeros q = refl
+
+pub holds-empty : (q : Identity) (s : Record) → empty s ≡ true → holds q s ≡ false
+unfolding holds
+holds-empty q s e = rw e
+
+pub holds-self : (s : Record) → empty s ≡ false → holds (identityOf s) s ≡ true
+unfolding holds
+holds-self s e = rw (e, same-refl (identityOf s))
+
+holds-sound : (q : Identity) (s : Record) → holds q s ≡ true → q ≡ identityOf s
+unfolding holds
+holds-sound q s e = same-sound q (identityOf s) (and-both (not (empty s)) (same q (identityOf s)) e .1)
+
+-- a slot with a record of another identity
+pub holds-other : (p q : Identity) (s : Record) → (p ≡ q → ⊥) → holds q s ≡ true → holds p s ≡ false
+holds-other p q s ne h = go (holds p s) refl
+  where
+    go : (b : Bool) → holds p s ≡ b → b ≡ false
+    go true e = absurd (ne (holds-sound p s e ∙ sym (holds-sound q s h)))
+    go false e = refl
+
+pub holds-aged : (q : Identity) (s : Record) → holds q (aged s) ≡ holds q s && not (empty (aged s))
+unfolding holds
+holds-aged q s = go (s .wait)
+  where
+    at : ℕ → Record
+    at w = record { clock = s .clock; port = s .port; sequence = s .sequence; residence = s .residence; wait = w }
+
+    go : (w : ℕ) → holds q (agedBy w (at w)) ≡ holds q (at w) && not (empty (agedBy w (at w)))
+    go zero = refl
+    go (suc zero) = sym (and-false (same q (identityOf s)))
+    go (suc (suc w)) = rw (eqb·suc-zero w, eqb·suc-zero (suc w)) (sym (and-true (same q (identityOf s))))
