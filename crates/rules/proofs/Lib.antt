@@ -1,3 +1,4 @@
 pub mod Bearing
 pub mod Changes
 pub mod Calls
+pub mod Laws

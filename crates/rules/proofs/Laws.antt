@@ -1,0 +1,114 @@
+-- Document 01's rules meet what the theorem about orders asks of a node, and so the order of calls does not matter there; and a
+-- record that a Sync left is found up to the second tick and gone at the third.
+-- Assumes nothing.
+use Prim.Native.Nat.{ℕ, _+_, _<_, _≤_}
+use mathlib.Core.Path.{_≡_, refl, sym, ap, _∙_}
+use mathlib.Core.Bool.{Bool, true, false}
+use mathlib.Core.List.{List}
+use mathlib.Core.Option.{Option, none, some}
+use native.Mathlib.Omega.{arith}
+use lib.ListN.{getElem?, take}
+use Rattle.refusal.specs.Answer.{Answer, value, refused}
+use Rattle.refusal.proofs.Answers.{not-both}
+use Rattle.residence.specs.declared.Residence.{Residence}
+use Rattle.residence.specs.Residence.{acceptedOf}
+use Rattle.records.specs.declared.Identity.{Identity}
+use Rattle.records.specs.declared.Record.{Record}
+use Rattle.records.specs.Slots.{Slots, find, vacant, addAnswer, collectAnswer}
+use Rattle.records.specs.Node.{Request, nothing, add, collect, tableAnswer, asked, Lawful, Event, call, replied, result, run, final}
+use Rattle.records.specs.Ageing.{Waits}
+use Rattle.records.proofs.Orders.{order-free}
+use Rattle.records.proofs.Alone.{result-at, found-in-time, gone-at-third}
+use Rattle.rules.specs.Rules.{Kind, sync, followUp, timed, untimed, unreadable, kindIdentity, kindOf, Mode, oneStep, twoStep, Call, Reply, waiting, added, asItCame, addToPad, keep, gather, keepRequest, requestBy, replyBy, rules}
+use Rattle.rules.specs.Demand3.{OrderDoesNotMatter, Waiting, AddedInTime, GoneAtThirdTick}
+use Rattle.rules.proofs.Calls.{reply-is, request-is, sync-set}
+
+-- a call asks only for the record of its own identity
+own : (m : Mode) (r : Residence) (k : Kind) (q : Identity) → asked (requestBy m r k) ≡ some q → kindIdentity k ≡ some q
+own oneStep r k q e = absurd (let z : _≡_ {A = ℕ} 0 1 = cc in omega arith)
+own twoStep r (sync p false) q e = absurd (let z : _≡_ {A = ℕ} 0 1 = cc in omega arith)
+own twoStep r (sync p true) q e = go (acceptedOf r) e
+  where
+    go : (a : Answer ℕ) → asked (keepRequest p a) ≡ some q → some p ≡ some q
+    go (value u) h = h
+    go (refused n) h = absurd (let z : _≡_ {A = ℕ} 0 1 = cc in omega arith)
+own twoStep r (followUp p) q e = e
+own twoStep r timed q e = e
+own twoStep r untimed q e = e
+own twoStep r (unreadable n) q e = e
+
+-- and one that is told that no slot is empty answers 14
+want : (m : Mode) (c : Call) (k : Kind) (q : Identity) (u : ℕ) → requestBy m (c .residence) k ≡ add q u → replyBy m c (refused 14) k .answer ≡ refused 14
+want oneStep c k q u e = absurd (let z : _≡_ {A = ℕ} 0 1 = cc in omega arith)
+want twoStep c (sync p false) q u e = absurd (let z : _≡_ {A = ℕ} 0 1 = cc in omega arith)
+want twoStep c (sync p true) q u e = go (acceptedOf (c .residence)) e
+  where
+    go : (a : Answer ℕ) → keepRequest p a ≡ add q u → keep c a (refused 14) .answer ≡ refused 14
+    go (value v) h = refl
+    go (refused n) h = absurd (let z : _≡_ {A = ℕ} 0 1 = cc in omega arith)
+want twoStep c (followUp p) q u e = absurd (let z : _≡_ {A = ℕ} 0 1 = cc in omega arith)
+want twoStep c timed q u e = absurd (let z : _≡_ {A = ℕ} 0 1 = cc in omega arith)
+want twoStep c untimed q u e = absurd (let z : _≡_ {A = ℕ} 0 1 = cc in omega arith)
+want twoStep c (unreadable n) q u e = absurd (let z : _≡_ {A = ℕ} 0 1 = cc in omega arith)
+
+pub lawful : Lawful rules
+lawful =
+    record {
+      own = λ c q e. own (c .mode) (c .residence) (kindOf (c .message)) q e;
+      want = λ c q u e. want (c .mode) c (kindOf (c .message)) q u e;
+    }
+
+-- demand 3, second half
+pub order-does-not-matter : OrderDoesNotMatter
+order-does-not-matter = order-free rules lawful
+
+-- what a call came to, from the result at its place
+pub reply-at : (t : Slots) (es : List (Event Call)) (i : ℕ) (c : Call) → getElem? es i ≡ some (call c) → getElem? (run rules t es) i ≡ some (replied (rules .reply c (tableAnswer (rules .request c) (final rules t (take i es)))))
+reply-at t es i c e = result-at rules t es i (call c) e
+
+pub came-to : (t : Slots) (es : List (Event Call)) (i : ℕ) (c : Call) (r : Reply) → getElem? es i ≡ some (call c) → getElem? (run rules t es) i ≡ some (replied r) → r ≡ rules .reply c (tableAnswer (rules .request c) (final rules t (take i es)))
+came-to t es i c r e f = cc (reply-at t es i c e)
+
+-- a record that the table does not refuse is put in
+pub put-in : (q : Identity) (u : ℕ) (t : Slots) → ((n : ℕ) → tableAnswer (add q u) t ≡ refused n → ⊥) → tableAnswer (add q u) t ≡ value 0
+put-in q u t fine = go (find q t) (vacant t) fine
+  where
+    go : (o : Option Record) (b : Bool) → ((n : ℕ) → addAnswer o b ≡ refused n → ⊥) → addAnswer o b ≡ value 0
+    go (some r) b h = absurd (h 13 refl)
+    go none true h = refl
+    go none false h = absurd (h 14 refl)
+
+module _ (t : Slots) (es : List (Event Call)) (q : Identity) (u i j : ℕ) (d : Call) (w : Waiting t es q u i j d) where
+  waits : Waits rules t es q u i j
+  waits =
+      let c = w .handed in
+      let T = final rules t (take i es) in
+      let asks = request-is c twoStep (sync q true) (w .two-step) (w .is-sync) ∙ ap (keepRequest q) (w .units) in
+      let came = came-to t es i c (asItCame c (value waiting)) (w .here) (w .outcome) in
+      let fine = sync-set c (tableAnswer (rules .request c) T) q (w .two-step) (w .is-sync) (λ n e. not-both (sym (ap (λ (r : Reply). r .answer) came ∙ e))) in
+      record {
+        adder = c;
+        here = w .here;
+        asks = asks;
+        taken = put-in q u T (λ n e. fine .taken n (ap (λ (a : Request). tableAnswer a T) asks ∙ e));
+        before = w .then;
+        alone = w .between;
+      }
+
+  -- the Follow_Up's reply, by what the table has for it
+  answered : getElem? (run rules t es) j ≡ some (replied (gather d (tableAnswer (collect q) (final rules t (take j es)))))
+  answered =
+      let T = final rules t (take j es) in
+      let asks = request-is d twoStep (followUp q) (w .two-step-too) (w .is-follow-up) in
+      reply-at t es j d (w .there)
+      ∙ ap (λ (r : Reply). some (replied r)) (reply-is d (tableAnswer (rules .request d) T) twoStep (followUp q) (w .two-step-too) (w .is-follow-up))
+      ∙ ap (λ (a : Request). some (replied (gather d (tableAnswer a T)))) asks
+
+pub added-in-time : AddedInTime
+added-in-time t es q u i j d w h =
+    answered t es q u i j d w ∙ ap (λ (a : Answer ℕ). some (replied (gather d a))) (found-in-time rules lawful t es q u i j (waits t es q u i j d w) h)
+
+pub gone-at-third-tick : GoneAtThirdTick
+gone-at-third-tick t es q u i j d w h =
+    let g = gone-at-third rules lawful t es q u i j (waits t es q u i j d w) h in
+    (g, answered t es q u i j d w ∙ ap (λ (o : Option Record). some (replied (gather d (collectAnswer o)))) g)
