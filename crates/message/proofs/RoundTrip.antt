@@ -5,7 +5,7 @@ use mathlib.Core.Path.{_≡_, refl, sym, ap, _∙_}
 use mathlib.Core.Bool.{Bool, true, false, cond, _&&_}
 use mathlib.Core.List.{List, _++_}
 use native.Mathlib.Omega.{arith}
-use borrow.Author.Tests.{le-ltb, eq-eqb, ne-eqb, eqb-false, ltb-false}
+use borrow.Author.Tests.{eq-eqb, ne-eqb, eqb-false, ltb-false}
 use lib.Dec.{ltb, leb, eqb}
 use lib.ListN.{length, take, drop}
 use lib.Seq.{take-at}
@@ -18,7 +18,7 @@ use Rattle.refusal.specs.Answer.{Answer, value, andThen}
 use Rattle.message.specs.declared.fields.Header.{Header}
 use Rattle.message.specs.declared.fields.SubTlv.{SubTlv}
 use Rattle.message.specs.declared.fields.Fields.{Fields}
-use Rattle.message.specs.Read.{Message, plain, ptp, isRtm, version, lengthField, isType, isSubTlv, subTlv, header, headerOf, subTlvOf, messageOf, readOf, carriedBy, carriedOf}
+use Rattle.message.specs.Read.{Message, plain, ptp, isType, subTlv, header, headerOf, subTlvOf, messageOf, readOf, carriedBy, carriedOf}
 use Rattle.message.specs.Write.{isPtp, gAchHeader, headerOctets, flagOctets, subTlvOctets, ptpOctets, plainOctets, messageOctets, outputBy, writeOf}
 use Rattle.message.specs.RoundTrip.{Sized, reported, RoundTrip}
 use Rattle.message.proofs.Sound.{header-taken, sub-tlv-taken}

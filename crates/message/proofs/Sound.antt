@@ -1,18 +1,18 @@
 -- Messages that the reader takes, both ways: what holds of one, and that this is enough to be taken.
 -- Assumes nothing.
-use Prim.Native.Nat.{ℕ, _+_, _-_, _≤_}
+use Prim.Native.Nat.{ℕ, _-_, _≤_}
 use mathlib.Core.Path.{_≡_, refl, sym, ap, _∙_}
 use mathlib.Core.Bool.{Bool, true, false, not, cond}
 use mathlib.Core.List.{List}
 use native.Mathlib.Omega.{arith}
 use borrow.Author.Tests.{le-ltb, eq-eqb, ne-eqb, ltb-false, eqb-true, eqb-false, not-false}
-use lib.Dec.{ltb, leb, eqb}
-use lib.ListN.{length, drop, length-drop}
+use lib.Dec.{ltb, eqb}
+use lib.ListN.{length, length-drop}
 use Rattle.refusal.specs.Answer.{Answer, value, refused, refuse, andThen}
 use Rattle.refusal.proofs.Answers.{not-both, passes}
 use Rattle.message.specs.declared.fields.Header.{Header}
 use Rattle.message.specs.declared.fields.SubTlv.{SubTlv}
-use Rattle.message.specs.Read.{Message, plain, ptp, isRtm, version, lengthField, messageValue, isType, isSubTlv, subTlv, header, headerOf, subTlvOf, messageOf, readOf}
+use Rattle.message.specs.Read.{plain, ptp, isRtm, version, lengthField, messageValue, isType, isSubTlv, subTlv, header, headerOf, subTlvOf, messageOf, readOf}
 
 -- a message whose header has nothing to refuse
 pub record SoundHeader (s : List ℕ) : Type 0 where
@@ -40,8 +40,7 @@ header-sound s h e =
     let p3 = passes 3 (not (isRtm s)) e4 h (p2 .1) in
     let p4 = passes 4 (not (eqb (version s) 0)) e5 h (p3 .1) in
     let p5 = passes 5 (not (eqb (lengthField s) (length s - 16))) e6 h (p4 .1) in
-    let p6 = passes 6 (not (isType (header s .«message_type»))) (value (header s)) h (p5 .1) in
-    (
+    let p6 = passes 6 (not (isType (header s .«message_type»))) (value (header s)) h (p5 .1) in (
       record {
         long = ltb-false (length s) 16 (p1 .0);
         short = ltb-false 2048 (length s) (p2 .0);
@@ -93,8 +92,7 @@ ptp-sound s h t e = by-header (headerOf s) refl e
         let p7 = passes 7 (ltb (length v) 20) (refuse 8 (not (isSubTlv v)) (value (subTlv v))) x q in
         let p8 = passes 8 (not (isSubTlv v)) (value (subTlv v)) x (p7 .1) in
         let l : 20 ≤ length v = ltb-false (length v) 20 (p7 .0) in
-        let same-type : header s .«message_type» ≡ g .«message_type» = ap (λ (y : Header). y .«message_type») (k .1) in
-        (
+        let same-type : header s .«message_type» ≡ g .«message_type» = ap (λ (y : Header). y .«message_type») (k .1) in (
           record {
             sound = k .0;
             not-one = λ z. one (sym same-type ∙ z);

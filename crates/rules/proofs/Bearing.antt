@@ -1,16 +1,15 @@
 -- Syncs and Follow_Ups as octets: what holds of a message that a node takes for one, and that this is enough.
 -- Assumes nothing.
 use Prim.Native.Nat.{ℕ}
-use mathlib.Core.Path.{_≡_, refl, sym, ap, _∙_}
+use mathlib.Core.Path.{_≡_, refl, ap, _∙_}
 use mathlib.Core.Bool.{Bool, true, false, cond}
 use mathlib.Core.List.{List}
 use native.Mathlib.Omega.{arith}
 use borrow.Author.Tests.{eqb-true}
 use lib.Dec.{leb, eqb}
 use Rattle.refusal.specs.Answer.{Answer, value, refused}
-use Rattle.message.specs.declared.fields.Header.{Header}
 use Rattle.message.specs.declared.fields.SubTlv.{SubTlv}
-use Rattle.message.specs.Read.{Message, plain, ptp, header, subTlv, messageValue, readOf}
+use Rattle.message.specs.Read.{Message, plain, ptp, subTlv, messageValue, readOf}
 use Rattle.message.proofs.Sound.{SoundPtp, ptp-taken, ptp-sound}
 use Rattle.records.specs.declared.Identity.{Identity}
 use Rattle.rules.specs.Rules.{Kind, sync, followUp, timed, untimed, unreadable, identityIn, ptpKind, kindBy, kindOf}

@@ -1,11 +1,10 @@
 -- What comes of a call on a Sync or a Follow_Up that is not refused, in each mode.
 -- Assumes nothing.
-use Prim.Native.Nat.{ℕ, _<_, _≤_, _^_}
+use Prim.Native.Nat.{ℕ, _<_, _^_}
 use mathlib.Core.Path.{_≡_, refl, sym, ap, _∙_}
 use mathlib.Core.Bool.{Bool, true, false, not}
-use mathlib.Core.List.{List, _++_}
+use mathlib.Core.List.{_++_}
 use native.Mathlib.Omega.{arith}
-use borrow.Author.Tests.{ltb-false, not-false}
 use lib.Dec.{ltb}
 use lib.IntN.{ℤ, pos, _+ℤ_}
 use lib.ListN.{length, take, drop}
@@ -14,10 +13,10 @@ use Rattle.refusal.specs.Answer.{Answer, value, refused, refuse}
 use Rattle.residence.specs.Residence.{acceptedOf}
 use Rattle.residence.proofs.Limit.{below-limit}
 use Rattle.records.specs.declared.Identity.{Identity}
-use Rattle.records.specs.Node.{Request, add, collect}
-use Rattle.scratch_pad.specs.Sum.{inRange, sumOf}
-use Rattle.rules.specs.Change.{padOf, withPad, withTwoStep, followUpOf}
-use Rattle.rules.specs.Rules.{Kind, sync, followUp, kindOf, Mode, oneStep, twoStep, Call, Word, updated, passed, created, waiting, added, Reply, asItCame, summed, addToPad, update, createIn, create, keepIn, keep, gather, replyBy, requestBy, rules}
+use Rattle.records.specs.Node.{add}
+use Rattle.scratch_pad.specs.Sum.{inRange}
+use Rattle.rules.specs.Change.{padOf, withTwoStep, followUpOf}
+use Rattle.rules.specs.Rules.{Kind, sync, followUp, kindOf, Mode, oneStep, twoStep, Call, Word, updated, created, waiting, added, Reply, summed, addToPad, update, createIn, create, keep, gather, replyBy, requestBy, rules}
 use Rattle.rules.specs.Path.{unitsOf}
 use Rattle.rules.proofs.Bearing.{Bears, sync-kind, follow-up-kind, is-sync, is-follow-up}
 use Rattle.rules.proofs.Changes.{with-pad-pad, with-pad-bears, with-two-step-bears, with-two-step-pad, follow-up-length, follow-up-pad, follow-up-bears}

@@ -3,25 +3,23 @@
 -- Assumes nothing.
 use Prim.Native.Nat.{ℕ, _+_, _-_, _%_, _<_, _≤_, _^_}
 use mathlib.Core.Path.{_≡_, refl, sym, ap, _∙_}
-use mathlib.Core.Bool.{Bool, true, false}
+use mathlib.Core.Bool.{Bool, true}
 use mathlib.Core.List.{List, [], _∷_, _++_}
 use native.Mathlib.Omega.{arith}
 use borrow.Author.Tests.{le-leb, ltb-true}
-use lib.Dec.{leb, eqb}
+use lib.Dec.{leb}
 use lib.IntN.{ℤ, pos}
-use lib.ListN.{length, getD, take, drop}
-use lib.Seq.{getD-drop, take-at}
+use lib.ListN.{length, getD, drop}
+use lib.Seq.{getD-drop}
 use mir.Syntax.{w64}
 use mir.Val.{SFits, toZ, ofZ}
 use mir.ValLaws.{toZ-ofZ, toZ-pos, ofZ-fits}
-use Rattle.octets.specs.Octets.{number, octets, signedNumber, signedOctets, put}
+use Rattle.octets.specs.Octets.{number, octets, signedOctets, put}
 use Rattle.octets.proofs.Numbers.{number-octets, number-drop}
 use Rattle.octets.proofs.Puts.{length-put, getD-before, getD-behind, getD-there, drop-behind, number-before, number-behind, number-there, each, part-each}
-use Rattle.message.specs.declared.fields.Header.{Header}
-use Rattle.message.specs.declared.fields.SubTlv.{SubTlv}
-use Rattle.message.specs.Read.{isRtm, version, lengthField, isType, isSubTlv, subTlv, messageValue, header}
+use Rattle.message.specs.Read.{subTlv}
 use Rattle.message.specs.Write.{gAchHeader}
-use Rattle.message.proofs.Sound.{SoundHeader, SoundPtp}
+use Rattle.message.proofs.Sound.{SoundHeader}
 use Rattle.scratch_pad.specs.Sum.{inRange}
 use Rattle.records.specs.declared.Identity.{Identity}
 use Rattle.rules.specs.Change.{padOf, withPad, withTwoStep, followUpOf}

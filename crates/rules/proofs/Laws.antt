@@ -1,7 +1,7 @@
 -- Document 01's rules meet what the theorem about orders asks of a node, and so the order of calls does not matter there; and a
 -- record that a Sync left is found up to the second tick and gone at the third.
 -- Assumes nothing.
-use Prim.Native.Nat.{ℕ, _+_, _<_, _≤_}
+use Prim.Native.Nat.{ℕ}
 use mathlib.Core.Path.{_≡_, refl, sym, ap, _∙_}
 use mathlib.Core.Bool.{Bool, true, false}
 use mathlib.Core.List.{List}
@@ -15,11 +15,11 @@ use Rattle.residence.specs.Residence.{acceptedOf}
 use Rattle.records.specs.declared.Identity.{Identity}
 use Rattle.records.specs.declared.Record.{Record}
 use Rattle.records.specs.Slots.{Slots, find, vacant, addAnswer, collectAnswer}
-use Rattle.records.specs.Node.{Request, nothing, add, collect, tableAnswer, asked, Lawful, Event, call, replied, result, run, final}
+use Rattle.records.specs.Node.{Request, add, collect, tableAnswer, asked, Lawful, Event, call, replied, run, final}
 use Rattle.records.specs.Ageing.{Waits}
 use Rattle.records.proofs.Orders.{order-free}
 use Rattle.records.proofs.Alone.{result-at, found-in-time, gone-at-third}
-use Rattle.rules.specs.Rules.{Kind, sync, followUp, timed, untimed, unreadable, kindIdentity, kindOf, Mode, oneStep, twoStep, Call, Reply, waiting, added, asItCame, addToPad, keep, gather, keepRequest, requestBy, replyBy, rules}
+use Rattle.rules.specs.Rules.{Kind, sync, followUp, timed, untimed, unreadable, kindIdentity, kindOf, Mode, oneStep, twoStep, Call, Reply, waiting, asItCame, keep, gather, keepRequest, requestBy, replyBy, rules}
 use Rattle.rules.specs.Demand3.{OrderDoesNotMatter, Waiting, AddedInTime, GoneAtThirdTick}
 use Rattle.rules.proofs.Calls.{reply-is, request-is, sync-set}
 

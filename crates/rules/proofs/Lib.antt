@@ -2,3 +2,5 @@ pub mod Bearing
 pub mod Changes
 pub mod Calls
 pub mod Laws
+pub mod Crossing
+pub mod PathSums

@@ -4,7 +4,7 @@ use mathlib.Core.List.{List, [], _∷_, _++_}
 use lib.IntN.{ℤ}
 use lib.ListN.{getD, take, drop}
 use Rattle.octets.specs.Octets.{octets, signedNumber, signedOctets, put}
-use Rattle.message.specs.Write.{gAchHeader, flagOctets}
+use Rattle.message.specs.Write.{gAchHeader}
 
 -- "Scratch Pad", octets 4 to 11
 abbrev pub padOf : List ℕ → ℤ

@@ -3,7 +3,7 @@ use Prim.Native.Nat.{ℕ, _+_, _<_, _≤_}
 use mathlib.Core.Path.{_≡_}
 use mathlib.Core.Bool.{Bool, true}
 use mathlib.Core.List.{List}
-use mathlib.Core.Option.{Option, none, some}
+use mathlib.Core.Option.{none, some}
 use lib.IntN.{ℤ, pos, _+ℤ_}
 use lib.ListN.{getElem?, take}
 use Rattle.refusal.specs.Answer.{value, refused}
@@ -13,7 +13,7 @@ use Rattle.records.specs.Slots.{Slots, find}
 use Rattle.records.specs.Node.{Event, call, replied, run, final}
 use Rattle.records.specs.Order.{ticks, OrderFree}
 use Rattle.rules.specs.Change.{padOf}
-use Rattle.rules.specs.Rules.{sync, followUp, kindOf, kindIdentity, twoStep, Call, waiting, added, Reply, asItCame, addToPad, rules}
+use Rattle.rules.specs.Rules.{sync, followUp, kindOf, kindIdentity, twoStep, Call, waiting, added, asItCame, addToPad, rules}
 use Rattle.rules.specs.Path.{Stop, Apart, Every, SyncWay, FollowUps, residences}
 
 -- First half. "Then, whatever other calls, refused ones too, and ticks those nodes get, the sum of the final pads is the sum of the

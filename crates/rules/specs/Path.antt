@@ -5,15 +5,15 @@ use mathlib.Core.Bool.{Bool, true, false}
 use mathlib.Core.List.{List, [], _∷_, _++_, List·Permᴰ}
 use mathlib.Core.Logic.{_⊎_}
 use mathlib.Core.Option.{Option, none, some}
-use lib.IntN.{ℤ, pos, _+ℤ_}
+use lib.IntN.{ℤ, pos}
 use lib.ListN.{getElem?, take}
 use Rattle.refusal.specs.Answer.{Answer, value, refused}
 use Rattle.residence.specs.Residence.{acceptedOf}
 use Rattle.records.specs.declared.Identity.{Identity}
 use Rattle.records.specs.Slots.{Slots, find}
-use Rattle.records.specs.Node.{Event, tick, call, Result, replied, run}
+use Rattle.records.specs.Node.{Event, tick, call, replied, run}
 use Rattle.rules.specs.Change.{padOf}
-use Rattle.rules.specs.Rules.{sync, followUp, kindOf, kindIdentity, Mode, Call, Word, created, Reply, rules}
+use Rattle.rules.specs.Rules.{followUp, kindOf, kindIdentity, Mode, Call, created, Reply, rules}
 
 -- A node of the path: "each in one fixed mode with a table of its own", its list of calls and ticks, and the places in it of the
 -- Sync's call and, where the Follow_Up crosses this node, of the Follow_Up's.

@@ -1,6 +1,5 @@
 -- One-step and two-step nodes (document 01, What a node does; refusals 9 to 16).
 use Prim.Native.Nat.{ℕ}
-use mathlib.Core.Path.{_≡_}
 use mathlib.Core.Bool.{Bool, true, false, cond}
 use mathlib.Core.List.{List, _++_}
 use mathlib.Core.Option.{Option, none, some}
