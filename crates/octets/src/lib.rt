@@ -13,4 +13,5 @@ pub use number::read_signed;
 pub use number::read16;
 pub use number::read32;
 pub use number::read64;
+pub use number::unsigned;
 pub use store::put;

@@ -125,7 +125,7 @@ fn signed(x: u64) -> i64
 }
 
 // The two's complement of z.
-fn unsigned(z: i64) -> u64
+pub fn unsigned(z: i64) -> u64
     ensures { λ r. ⌜ r ≡ ofZ w64 z ⌝ }
 {
     if z >= 0 {
