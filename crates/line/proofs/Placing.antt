@@ -1,12 +1,13 @@
 -- Words put one after another are their concatenation put at once.
 -- Assumes nothing.
 use Prim.Native.Nat.{ℕ, _+_}
-use mathlib.Core.Path.{_≡_, sym, ap, _∙_}
+use mathlib.Core.Path.{_≡_, ap, _∙_}
 use mathlib.Core.List.{List, _++_, append-assoc}
 use native.Mathlib.Omega.{arith}
 use lib.ListN.{length, take, drop, length-append, length-drop}
 use lib.Seq.{length-take-le, take-at, drop-at, drop-drop}
 use Rattle.io.specs.Counts.{Counts}
+use Rattle.io.proofs.Counting.{counts}
 use Rattle.line.specs.Placed.{Placed}
 
 module _ {u l m : List ℕ} {a b : ℕ} (p : Placed u l m a b) where
@@ -38,4 +39,4 @@ then-field {u} w v p q = rw (append-assoc u w v) (then p q)
 -- words at the start
 pub at-start : {w l m : List ℕ} {n : ℕ} → Placed w l m 0 n → (take n m ≡ w) × ((drop n m ≡ drop n l) × Counts n m)
 at-start p =
-    (up-to p, (beyond p, (omega (arith, p .fits, same-length p), sym (ap length (up-to p) ∙ long p))))
+    (up-to p, (beyond p, counts _ _ (omega (arith, p .fits, same-length p))))

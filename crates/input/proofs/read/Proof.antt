@@ -1,5 +1,5 @@
 -- `read` meets its contract: what counts octets of the part that was lent counts those of the whole.
--- Assumes nothing.
+-- Assumes what libc says of its `read`, through `io`.
 use native.Mathlib.Omega.{arith}
 use mathlib.Core.Path.{sym}
 use lib.ListN.{drop, length-append}

@@ -1,5 +1,5 @@
 -- `main` is safe and ends: the measure is the number of messages that it may still show.
--- Assumes nothing.
+-- Assumes what libc says of its `read` and `write`, through `io`.
 use native.Mathlib.Omega.{arith}
 use Rattle.show_cases.proofs.main.Statement.{statement}
 use Rattle.show_cases.proofs.main.Tie as tie
