@@ -1,12 +1,11 @@
 // Reads a message from standard input and prints its line (document 01, Numbers to check against:
 // "The program reads standard input, up to 2,049 octets").
-use libc::STDIN_FILENO;
 use libc::STDOUT_FILENO;
 
 fn main() {
-    let mut input = [0u8; 2049];
-    let n = io::read_full(STDIN_FILENO, &mut input);
+    let mut message = io::buffer();
+    let n = input::read(&mut message, 2049);
     let mut out = [0u8; line::ROOM];
-    let end = line::line(&input[..n], &mut out);
+    let end = line::line(&message[..n], &mut out);
     io::write_all(STDOUT_FILENO, &out[..end]);
 }

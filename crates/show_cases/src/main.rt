@@ -7,7 +7,7 @@ fn show_next() -> bool {
     if input::read(&mut head, 2) < 2 {
         return false;
     }
-    let mut message = [0u8; 2049];
+    let mut message = io::buffer();
     let n = input::read(&mut message, octets::read16(&head, 0) as usize);
     let mut out = [0u8; line::ROOM];
     let end = line::line(&message[..n], &mut out);

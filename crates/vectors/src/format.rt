@@ -16,7 +16,8 @@ pub(crate) fn after(s: &[u8], n: usize) -> &[u8] {
     if n <= s.len() { &s[n..] } else { &s[..0] }
 }
 
-// The first n octets, none where there are fewer.
+// The first n octets, none where there are fewer. (Of `0..n`, unlike `..n`, the check knows that it
+// has n octets.)
 fn front(s: &[u8], n: usize) -> &[u8] {
     if n <= s.len() { &s[0..n] } else { &s[..0] }
 }
@@ -55,6 +56,7 @@ pub(crate) fn signed(word: &[u8], z: i64) {
     }
 }
 
+// An octet, in two digits.
 fn octet(b: u8) {
     io::print_hex(STDOUT_FILENO, b as u64, 2);
 }

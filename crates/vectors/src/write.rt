@@ -14,7 +14,7 @@ fn fields(body: &[u8]) -> Fields {
     };
     let flags = octets::read16(body, 10);
     let sub_tlv = SubTlv {
-        two_step: flags / 256 != 0,
+        two_step: flags / 256 == 1,
         ptp_type: (flags % 256) as u8,
         clock: octets::read64(body, 12),
         port: octets::read16(body, 20),
@@ -25,9 +25,10 @@ fn fields(body: &[u8]) -> Fields {
 
 fn run_in(out: &mut [u8], body: &[u8]) {
     let carried = format::counted(format::after(body, 26));
+    format::text(b"write");
     match message::write(out, fields(body), carried) {
-        Written::Size(n) => format::number(b"write size ", n as u64),
-        Written::Refused(n) => format::number(b"write refused ", n as u64),
+        Written::Size(n) => format::number(b" size ", n as u64),
+        Written::Refused(n) => format::refused(n),
     }
     format::hex(b" out ", out);
     format::text(b"\n");
