@@ -1,4 +1,58 @@
-// The line that the program prints of a message (document 01).
+// The line that the program prints of a message (document 01, Numbers to check against).
+mod place;
+
+use message::Header;
+use message::Reading;
+use message::SubTlv;
 ghost use mathlib.Core.Path.{_≡_};
-ghost use lib.ListN.{length, take};
-ghost use Rattle.line.specs.Line.{lineOf};
+ghost use Prim.Native.Nat.{_+_, _≤_};
+ghost use lib.ListN.{take, drop};
+ghost use Rattle.io.specs.Counts.{Counts};
+ghost use Rattle.line.specs.Line.{headerWords, subTlvWords, lineOf};
+ghost use Rattle.line.specs.Placed.{Placed};
+
+// Room for any line.
+pub const ROOM: usize = 192;
+
+// Type and pad, at the start of the line.
+fn header_words(out: &mut [u8; ROOM], header: Header) -> usize
+    ensures { λ r. ⌜ Placed (headerWords header) (now (out .entry)) (now (out .exit)) 0 r ⌝ }
+    ensures { λ r. ⌜ r ≤ 51 ⌝ }
+{
+    let after_type = place::field(out, 0, b"type ", header.message_type as u64);
+    let pad = place::text(out, after_type, b" pad ");
+    place::signed(out, pad, header.pad)
+}
+
+// S, PTPType and sequence.
+fn sub_tlv_words(out: &mut [u8; ROOM], at: usize, sub_tlv: SubTlv) -> usize
+    requires { ⌜ at + 74 ≤ 192 ⌝ }
+    ensures { λ r. ⌜ Placed (subTlvWords «sub_tlv») (now (out .entry)) (now (out .exit)) at r ⌝ }
+    ensures { λ r. ⌜ r ≤ at + 74 ⌝ }
+{
+    let kind = place::field(out, at, b" s ", sub_tlv.two_step as u64);
+    let sequence = place::field(out, kind, b" kind ", sub_tlv.ptp_type as u64);
+    place::field(out, sequence, b" seq ", sub_tlv.sequence as u64)
+}
+
+// The line of a message, at the start of out; answers its length. Octets of out beyond it stay.
+pub fn line(message: &[u8], out: &mut [u8; ROOM]) -> usize
+    ensures { λ r. ⌜ take r (now (out .exit)) ≡ lineOf (now (message .entry)) ⌝ }
+    ensures { λ r. ⌜ drop r (now (out .exit)) ≡ drop r (now (out .entry)) ⌝ }
+    ensures { λ r. ⌜ Counts r (now (out .exit)) ⌝ }
+{
+    let size = message::carried(message).len() as u64;
+    match message::read(message) {
+        Reading::Plain(header) => {
+            let none = header_words(out, header);
+            let carried = place::text(out, none, b" s - kind - seq -");
+            place::last(out, carried, b" carried ", size)
+        }
+        Reading::Ptp(header, sub_tlv) => {
+            let flag = header_words(out, header);
+            let carried = sub_tlv_words(out, flag, sub_tlv);
+            place::last(out, carried, b" carried ", size)
+        }
+        Reading::Refused(n) => place::last(out, 0, b"refused ", n as u64),
+    }
+}

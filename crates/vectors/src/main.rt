@@ -1,0 +1,38 @@
+// Runs the cases of standard input and prints a line for each. A case is an octet, its operation;
+// two octets, the size of its body; and the body. A case of an operation that is not known prints
+// nothing.
+mod format;
+mod read;
+mod residences;
+mod write;
+
+fn run(operation: u8, body: &[u8]) {
+    match operation {
+        1 => read::run(body),
+        2 => write::run(body),
+        3 => residences::run(body),
+        _ => {}
+    }
+}
+
+// Runs the next case. Answers false where there is none.
+fn run_next() -> bool {
+    let mut head = [0u8; 3];
+    if input::read(&mut head, 3) < 3 {
+        return false;
+    }
+    let mut body = io::large_buffer();
+    let n = input::read(&mut body, octets::read16(&head, 1) as usize);
+    run(head[0], &body[..n]);
+    true
+}
+
+fn main() {
+    let mut left: usize = 65536;
+    while 0 < left {
+        if !run_next() {
+            return;
+        }
+        left -= 1;
+    }
+}

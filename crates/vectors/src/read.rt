@@ -1,0 +1,39 @@
+// Operation 1: what a message says.
+use crate::format;
+use libc::STDOUT_FILENO;
+use message::Header;
+use message::Reading;
+use message::SubTlv;
+
+pub(crate) fn run(body: &[u8]) {
+    let message = format::counted(body);
+    format::text(b"read");
+    match message::read(message) {
+        Reading::Plain(header) => {
+            print_header(header);
+            format::text(b" s - kind - port - seq -");
+            format::hex(b" carried ", message::carried(message));
+        }
+        Reading::Ptp(header, sub_tlv) => {
+            print_header(header);
+            print_sub_tlv(sub_tlv);
+            format::hex(b" carried ", message::carried(message));
+        }
+        Reading::Refused(n) => format::refused(n),
+    }
+    format::text(b"\n");
+}
+
+fn print_header(header: Header) {
+    format::number(b" type ", header.message_type as u64);
+    format::signed(b" pad ", header.pad);
+}
+
+fn print_sub_tlv(sub_tlv: SubTlv) {
+    format::number(b" s ", sub_tlv.two_step as u64);
+    format::number(b" kind ", sub_tlv.ptp_type as u64);
+    format::text(b" port ");
+    io::print_hex(STDOUT_FILENO, sub_tlv.clock, 16);
+    io::print_hex(STDOUT_FILENO, sub_tlv.port as u64, 4);
+    format::number(b" seq ", sub_tlv.sequence as u64);
+}
