@@ -38,3 +38,13 @@ pub const NOT_FOR_TWO_STEP: u8 = 16;
 
 // Writing a message.
 pub const PTP_TYPE: u8 = 17;
+
+// Joining.
+pub const NOT_A_PAIR: u8 = 18;
+
+// An address list.
+pub const LIST_TOO_LONG: u8 = 19;
+
+pub const BAD_ENTRY: u8 = 20;
+
+pub const NO_ENTRY: u8 = 21;
