@@ -1,7 +1,7 @@
 // RTM messages on the G-ACh (RFC 8169, 4; document 01, The RTM message): their layout, the reader
 // with its sub-TLV reader and the carried packet, and the writer.
 mod fields;
-mod layout;
+pub mod layout;
 mod reader;
 mod writer;
 

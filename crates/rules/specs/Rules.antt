@@ -6,7 +6,7 @@ use mathlib.Core.Option.{Option, none, some}
 use lib.Dec.{ltb, leb, eqb}
 use lib.IntN.{ℤ, pos, _+ℤ_}
 use lib.ListN.{length, drop}
-use Rattle.refusal.specs.Answer.{Answer, value, refused}
+use Rattle.refusal.specs.Answer.{Answer, value, refused, andThen}
 use Rattle.residence.specs.declared.Residence.{Residence}
 use Rattle.residence.specs.Residence.{acceptedOf}
 use Rattle.message.specs.declared.fields.SubTlv.{SubTlv}
@@ -72,9 +72,12 @@ abbrev pub asItCame : Call → Answer Word → Reply
 asItCame c a = record { answer = a; message = c .message; output = c .output }
 
 -- the pad with u added, or 11
+abbrev pub padBy : List ℕ → Answer ℤ → List ℕ
+padBy s (value z) = withPad s z
+padBy s (refused n) = s
+
 abbrev pub summed : Call → Word → Answer ℤ → Reply
-summed c w (value z) = record { answer = value w; message = withPad (c .message) z; output = c .output }
-summed c w (refused n) = asItCame c (refused n)
+summed c w a = record { answer = andThen a (λ z. value w); message = padBy (c .message) a; output = c .output }
 
 abbrev pub addToPad : Call → Word → ℕ → Reply
 addToPad c w u = summed c w (sumOf (padOf (c .message)) (pos u))
@@ -179,9 +182,12 @@ pub record Done : Type 0 where
   pub reply : Reply
   pub slots : Slots
 
-abbrev pub callOf : Slots → Call → Done
-callOf t c =
+abbrev pub callBy : Slots → Call → Kind → Done
+callBy t c k =
     record {
-      reply = rules .reply c (tableAnswer (rules .request c) t);
-      slots = tableAfter (rules .commits c) (rules .request c) t;
+      reply = replyBy (c .mode) c (tableAnswer (requestBy (c .mode) (c .residence) k) t) k;
+      slots = tableAfter (rules .commits c) (requestBy (c .mode) (c .residence) k) t;
     }
+
+abbrev pub callOf : Slots → Call → Done
+callOf t c = callBy t c (kindOf (c .message))

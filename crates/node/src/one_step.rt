@@ -1,0 +1,41 @@
+// The one-step node: the residence is added to the pad of the message itself.
+use crate::answer;
+use crate::answer::Accepted;
+use crate::answer::Answer;
+use crate::change;
+use crate::kind;
+use crate::kind::Handling;
+use residence::Residence;
+use scratch_pad::Sum;
+ghost use mathlib.Core.Path.{_≡_};
+ghost use Rattle.rules.specs.Rules.{oneStepReply, update, kindOf};
+ghost use Rattle.residence.specs.Residence.{acceptedOf};
+ghost use Rattle.node.specs.Answers.{replied};
+ghost use Rattle.node.specs.Calls.{oneStepCall};
+
+// Adds the residence: refusals 9, 10 and 11.
+fn update_pad(message: &mut [u8], residence: Residence) -> Answer
+    ensures { λ r. ⌜ replied r (now (message .exit)) ≡ update (oneStepCall (now (message .entry)) residence) (acceptedOf residence) ⌝ }
+{
+    match answer::accept(residence) {
+        Accepted::Units(units) => match change::add_to_pad(message, units) {
+            Sum::Of(_) => Answer::Updated,
+            Sum::Refused(n) => Answer::Refused(n),
+        },
+        Accepted::Refused(n) => Answer::Refused(n),
+    }
+}
+
+// A message at a one-step node: updated, or passed with its residence not looked at; refusals 1 to
+// 8 of reading, then 9, 10 and 11. A refusal leaves the message as it came.
+pub fn handle_one_step(message: &mut [u8], residence: Residence) -> Answer
+    ensures { λ r. ⌜ replied r (now (message .exit)) ≡ oneStepReply (oneStepCall (now (message .entry)) residence) (kindOf (now (message .entry))) ⌝ }
+{
+    match kind::handling(message) {
+        Handling::Sync(_, _) => update_pad(message, residence),
+        Handling::Timed => update_pad(message, residence),
+        Handling::FollowUp(_) => Answer::Passed,
+        Handling::Untimed => Answer::Passed,
+        Handling::Unreadable(n) => Answer::Refused(n),
+    }
+}
