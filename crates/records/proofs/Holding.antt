@@ -2,7 +2,7 @@
 -- Assumes nothing.
 use Prim.Native.Nat.{ℕ, zero, suc}
 use mathlib.Core.Path.{_≡_, refl, sym, _∙_}
-use mathlib.Core.Bool.{Bool, true, false, not, _&&_, and-true, and-false, true≢false, false≢true}
+use mathlib.Core.Bool.{Bool, true, false, not, _&&_, true≢false, false≢true}
 use lib.Dec.{eqb, eqb·suc-zero}
 use borrow.Author.Tests.{eqb-true, eq-eqb}
 use Rattle.records.specs.declared.Identity.{Identity}
@@ -60,14 +60,17 @@ holds-other p q s ne h = go (holds p s) refl
     go true e = absurd (ne (holds-sound p s e ∙ sym (holds-sound q s h)))
     go false e = refl
 
+-- a slot with another wait
+abbrev pub withWait : Record → ℕ → Record
+withWait s w = record { clock = s .clock; port = s .port; sequence = s .sequence; residence = s .residence; wait = w }
+
 pub holds-aged : (q : Identity) (s : Record) → holds q (aged s) ≡ holds q s && not (empty (aged s))
 unfolding holds
-holds-aged q s = go (s .wait)
+holds-aged q s = go (s .wait) (same q (identityOf s)) refl
   where
-    at : ℕ → Record
-    at w = record { clock = s .clock; port = s .port; sequence = s .sequence; residence = s .residence; wait = w }
-
-    go : (w : ℕ) → holds q (agedBy w (at w)) ≡ holds q (at w) && not (empty (agedBy w (at w)))
-    go zero = refl
-    go (suc zero) = sym (and-false (same q (identityOf s)))
-    go (suc (suc w)) = rw (eqb·suc-zero w, eqb·suc-zero (suc w)) (sym (and-true (same q (identityOf s))))
+    go : (w : ℕ) (b : Bool) → same q (identityOf s) ≡ b → holds q (agedBy w (withWait s w)) ≡ holds q (withWait s w) && not (empty (agedBy w (withWait s w)))
+    go zero b e = refl
+    go (suc zero) true e = rw e
+    go (suc zero) false e = rw e
+    go (suc (suc w)) true e = simp (eqb·suc-zero, e)
+    go (suc (suc w)) false e = simp (eqb·suc-zero, e)

@@ -6,3 +6,4 @@ pub mod Seen
 pub mod Cuts
 pub mod Orders
 pub mod Alone
+pub mod Tally

@@ -8,22 +8,22 @@ use mathlib.Core.List.{List}
 use mathlib.Core.Option.{some}
 use native.Mathlib.Omega.{arith}
 use borrow.Author.Tests.{eqb-true, eqb-false, ne-eqb}
-use lib.Dec.{eqb}
 use lib.ListN.{length, getElem?}
 use lib.Seq.{take-length}
+use Rattle.records.specs.declared.Identity.{Identity}
 use Rattle.records.specs.declared.Record.{Record}
 use Rattle.records.specs.Slots.{Slots, empty, count, emptied}
 use Rattle.records.specs.Node.{tableAnswer, Node, Lawful, Event, call, run, final}
 use Rattle.records.specs.Order.{tickCounts, sameRecord, NoWant, Reordered, OrderFree}
-use Rattle.records.proofs.View.{equal-views}
+use Rattle.records.proofs.View.{view, equal-views}
 use Rattle.records.proofs.Effects.{answer-alike}
 use Rattle.records.proofs.Places.{same-places, NthTick, nth-tick, after, result-at, counts-length, counts-at}
 use Rattle.records.proofs.Cuts.{not-full, tick-cut, call-cut, end-cut, cut-view}
 
--- no empty slot is counted as emptied by a tick, and none is the same as a record
-empty-stays : (s : Record) → empty s ≡ true → eqb (s .wait) 1 ≡ false
-empty-stays s e = ne-eqb (s .wait) 1 (λ h. omega (arith, eqb-true (s .wait) 0 e))
+emptied-alike : (t u : Slots) → ((q : Identity) → view q t ≡ view q u) → emptied t ≡ emptied u
+emptied-alike = equal-views _ (λ s e. rw (eqb-true (s .wait) 0 e))
 
+-- an empty slot is no record's like
 empty-unlike : (r s : Record) → empty r ≡ false → empty s ≡ true → sameRecord r s ≡ false
 unfolding sameRecord
 empty-unlike r s l e = rw (ne-eqb (r .wait) (s .wait) (λ h. eqb-false (r .wait) 0 l (h ∙ eqb-true (s .wait) 0 e)))
@@ -60,7 +60,7 @@ module _
           → getElem? (tickCounts (run N t es)) k ≡ getElem? (tickCounts (run N t fs)) k
       at k (i, a, e, x) (j, b, f, y) =
           let h : emptied (after N t i es) ≡ emptied (after N t j fs) =
-          equal-views (λ s. eqb (s .wait) 1) empty-stays (after N t i es) (after N t j fs)
+          emptied-alike (after N t i es) (after N t j fs)
           (λ q. cut-view N es fs R L t wes wfs q i j (tick-cut N es fs R q i j e f (x ∙ sym y))) in
           rw x at (counts-at N t es i e) ∙ ap some h ∙ sym (rw y at (counts-at N t fs j f))
 

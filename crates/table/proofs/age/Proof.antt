@@ -6,14 +6,11 @@ use borrow.Author.Needs.{needs}
 use native.Mathlib.Omega.{arith}
 use Rattle.records.specs.declared.Record.{Record}
 use Rattle.records.specs.Slots.{agedBy}
+use Rattle.records.proofs.Holding.{withWait}
 use Rattle.table.proofs.age.Statement.{statement}
 use Rattle.table.proofs.age.Tie as tie
 
-ages :
-    (w : ℕ) (s : Record)
-    → (w ≡ 0 → ⊥)
-    → (w ≡ 1 → ⊥)
-    → record { clock = s .clock; port = s .port; sequence = s .sequence; residence = s .residence; wait = w - 1 } ≡ agedBy w s
+ages : (w : ℕ) (s : Record) → (w ≡ 0 → ⊥) → (w ≡ 1 → ⊥) → withWait s (w - 1) ≡ agedBy w s
 ages zero s a b = absurd (a refl)
 ages (suc zero) s a b = absurd (b refl)
 ages (suc (suc w)) s a b = let e : suc (suc w) - 1 ≡ suc w = omega arith in rw e
