@@ -44,7 +44,7 @@ fn of_ptp(sub_tlv: SubTlv) -> Handling
     Handling::Untimed
 }
 
-pub(crate) fn handling(message: &[u8]) -> Handling
+pub(crate) fn classify(message: &[u8]) -> Handling
     ensures { λ r. ⌜ kindAnswer r ≡ kindOf (now (message .entry)) ⌝ }
 {
     match message::read(message) {

@@ -31,7 +31,7 @@ fn update_pad(message: &mut [u8], residence: Residence) -> Answer
 pub fn handle_one_step(message: &mut [u8], residence: Residence) -> Answer
     ensures { λ r. ⌜ replied r (now (message .exit)) ≡ oneStepReply (oneStepCall (now (message .entry)) residence) (kindOf (now (message .entry))) ⌝ }
 {
-    match kind::handling(message) {
+    match kind::classify(message) {
         Handling::Sync(_, _) => update_pad(message, residence),
         Handling::Timed => update_pad(message, residence),
         Handling::FollowUp(_) => Answer::Passed,

@@ -13,9 +13,14 @@ use table::Entry;
 use table::Found;
 use table::Table;
 ghost use mathlib.Core.Path.{_≡_};
-ghost use Prim.Native.Nat.{_≤_};
+ghost use mathlib.Core.Bool.{true};
+ghost use mathlib.Core.List.{List};
+ghost use Prim.Native.Nat.{ℕ, _≤_};
 ghost use lib.Dec.{ltb};
 ghost use lib.ListN.{length};
+ghost use Rattle.refusal.specs.Answer.{value};
+ghost use Rattle.residence.specs.declared.Residence.{Residence};
+ghost use Rattle.residence.specs.Residence.{acceptedOf};
 ghost use Rattle.rules.specs.Rules.{createIn, callBy, callOf, sync, followUp};
 ghost use Rattle.node.specs.Answers.{repliedWith, done};
 ghost use Rattle.node.specs.Calls.{twoStepCall};
@@ -34,4 +39,120 @@ fn create(message: &mut [u8], output: &mut [u8], residence: Residence, units: u6
     change::create_follow_up(output, message, units);
     change::set_two_step(message);
     Answer::Created
+}
+
+// A Sync with S set: its residence waits in the table, or refusal 13 or 14. Whatever message and
+// output the call has, they stay.
+fn keep(table: Table, identity: Identity, units: u64) -> Done
+    ensures { λ r. ⌜
+        ((m o : List ℕ) (x : Residence) → acceptedOf x ≡ value units → done r m o ≡ callBy (table .slots) (twoStepCall m o x) (sync identity true))
+        ⌝ }
+{
+    let entered = table.add(identity, units);
+    let after = entered.table;
+    let entry = entered.answer;
+    match entry {
+        Entry::Waiting => Done {
+            table: after,
+            answer: Answer::Waiting,
+        },
+        Entry::Refused(n) => Done {
+            table: after,
+            answer: Answer::Refused(n),
+        },
+    }
+}
+
+// A Sync: refusals 9 and 10; with S clear the Follow_Up is created, with S set the residence waits.
+fn handle_sync(
+    table: Table,
+    message: &mut [u8],
+    output: &mut [u8],
+    residence: Residence,
+    identity: Identity,
+    flag: bool,
+) -> Done
+    requires { ⌜ 36 ≤ length (now message) ⌝ }
+    ensures { λ r. ⌜
+        done r (now (message .exit)) (now (output .exit))
+        ≡ callBy (table .slots) (twoStepCall (now (message .entry)) (now (output .entry)) residence) (sync identity flag)
+        ⌝ }
+{
+    match answer::accept(residence) {
+        Accepted::Units(units) => {
+            if flag {
+                return keep(table, identity, units);
+            }
+            let answer = create(message, output, residence, units);
+            Done { table, answer }
+        }
+        Accepted::Refused(n) => Done {
+            table,
+            answer: Answer::Refused(n),
+        },
+    }
+}
+
+// A Follow_Up: refusal 15 where no record waits for it; 11 where the sum does not fit, and the
+// record stays; or the record's residence is added and its slot emptied. Residence and output of
+// the call are not looked at.
+fn gather(table: Table, message: &mut [u8], identity: Identity) -> Done
+    ensures { λ r. ⌜
+        ((o : List ℕ) (x : Residence) → done r (now (message .exit)) o ≡ callBy (table .slots) (twoStepCall (now (message .entry)) o x) (followUp identity))
+        ⌝ }
+{
+    match table.find(identity) {
+        Found::Residence(units) => match change::add_to_pad(message, units) {
+            Sum::Of(_) => {
+                let taken = table.collect(identity);
+                let after = taken.table;
+                Done {
+                    table: after,
+                    answer: Answer::Added,
+                }
+            }
+            Sum::Refused(n) => Done {
+                table,
+                answer: Answer::Refused(n),
+            },
+        },
+        Found::Refused(n) => Done {
+            table,
+            answer: Answer::Refused(n),
+        },
+    }
+}
+
+// A message at a two-step node: created, waiting, added or passed; refusals 1 to 8 of reading, then
+// 16; for a Sync 9, 10, and 12 where S is clear or 13, 14 where set; for a Follow_Up 15, 11. A
+// refusal leaves message, output and table as they came.
+pub fn handle_two_step(
+    table: Table,
+    message: &mut [u8],
+    output: &mut [u8],
+    residence: Residence,
+) -> Done
+    ensures { λ r. ⌜
+        done r (now (message .exit)) (now (output .exit))
+        ≡ callOf (table .slots) (twoStepCall (now (message .entry)) (now (output .entry)) residence)
+        ⌝ }
+{
+    match kind::classify(message) {
+        Handling::Sync(identity, flag) => {
+            handle_sync(table, message, output, residence, identity, flag)
+        }
+        Handling::FollowUp(identity) => gather(table, message, identity),
+        Handling::Timed => Done {
+            table,
+            answer: Answer::Refused(refusal::NOT_FOR_TWO_STEP),
+        },
+        Handling::Untimed => Done {
+            table,
+            answer: Answer::Passed,
+        },
+        Handling::Unreadable(n) => Done {
+            table,
+            answer: Answer::Refused(n),
+        },
+    }
 }
