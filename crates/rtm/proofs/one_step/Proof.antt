@@ -1,0 +1,30 @@
+-- `one_step` meets its contract: the residence handed on is that of the stamps.
+-- Assumes nothing.
+use mathlib.Core.Path.{ap, _∙_}
+use Rattle.residence.specs.declared.Residence.{Residence}
+use Rattle.stamp.specs.Stamp.{residenceOf}
+use Rattle.rtm.proofs.Runs.{same-residence}
+use Rattle.rules.specs.Rules.{oneStepReply, kindOf}
+use Rattle.node.specs.Calls.{oneStepCall}
+use borrow.Author.Needs.{needs}
+use Rattle.rtm.proofs.one_step.Statement.{statement}
+use Rattle.rtm.proofs.one_step.Tie as tie
+
+residence-between-requires : tie.Need-residence-between-requires
+residence-between-requires c κs = search needs
+
+handle-one-step-requires : tie.Need-handle-one-step-requires
+handle-one-step-requires c κs = search needs
+
+same-length : tie.Need-same-length
+same-length c = search needs
+
+returns : tie.Need-returns
+returns c =
+    let a = c .before .before .before .before .before .before .args in
+    let e = same-residence (c .before .before .before .residence-between .result) (residenceOf (a .entry) (a .exit)) (c .before .before .before .residence-between .ensures) in
+    c .before .before .handle-one-step .ensures ∙ ap (λ (x : Residence). oneStepReply (oneStepCall (a .message .now) x) (kindOf (a .message .now))) e
+
+pub one-step-spec : {M : Type 1} → statement M
+one-step-spec =
+    tie.close (tie.spec residence-between-requires handle-one-step-requires same-length returns)

@@ -1,0 +1,43 @@
+// Node calls as a router makes them: a message with the stamps of its entry and its exit (document
+// 01, What a node does). They are the calls of crate `node` with the residence between the stamps.
+use node::Answer;
+use node::Done;
+use stamp::Stamp;
+use table::Table;
+ghost use mathlib.Core.Path.{_≡_};
+ghost use Rattle.rules.specs.Rules.{oneStepReply, kindOf, callOf};
+ghost use Rattle.node.specs.Answers.{replied, done};
+ghost use Rattle.node.specs.Calls.{oneStepCall, twoStepCall};
+ghost use Rattle.rtm.specs.Stamped.{stampedResidence};
+
+// A message at a one-step node: updated or passed; refusals 1 to 11, see node::handle_one_step.
+pub fn one_step(message: &mut [u8], entry: Stamp, exit: Stamp) -> Answer
+    ensures { λ r. ⌜
+        replied r (now (message .exit))
+        ≡ oneStepReply (oneStepCall (now (message .entry)) (stampedResidence entry exit)) (kindOf (now (message .entry)))
+        ⌝ }
+{
+    node::handle_one_step(message, stamp::residence_between(entry, exit))
+}
+
+// A message at a two-step node: created, waiting, added or passed; refusals 1 to 16, see
+// node::handle_two_step.
+pub fn two_step(
+    table: Table,
+    message: &mut [u8],
+    output: &mut [u8],
+    entry: Stamp,
+    exit: Stamp,
+) -> Done
+    ensures { λ r. ⌜
+        done r (now (message .exit)) (now (output .exit))
+        ≡ callOf (table .slots) (twoStepCall (now (message .entry)) (now (output .entry)) (stampedResidence entry exit))
+        ⌝ }
+{
+    node::handle_two_step(
+        table,
+        message,
+        output,
+        stamp::residence_between(entry, exit),
+    )
+}
