@@ -22,11 +22,11 @@ isEntry s = not (eqb (frontSize s) 0) && (eqb (getD s 1 0) (frontSize s) && leb 
 -- "An entry is read, then the rest of the list in the same way": the entries, each as the part of the list that holds it, of a list
 -- of at most k octets; 20: "any entry of the list cut short, of unknown type or of wrong length"
 abbrev pub entriesWithin : ℕ → List ℕ → Answer (List (List ℕ))
-entriesWithin k [] = value []
-entriesWithin zero (x ∷ s) = refused 20
-entriesWithin (suc k) (x ∷ s) =
-    refuse 20 (not (isEntry (x ∷ s)))
-    (andThen (entriesWithin k (drop (frontSize (x ∷ s)) (x ∷ s))) (λ es. value (take (frontSize (x ∷ s)) (x ∷ s) ∷ es)))
+entriesWithin zero s = value []
+entriesWithin (suc k) s =
+    cond (eqb (length s) 0) (value [])
+    (refuse 20 (not (isEntry s))
+    (andThen (entriesWithin k (drop (frontSize s) s)) (λ es. value (take (frontSize s) s ∷ es))))
 
 -- 19: "list over 1,024 octets"; "An empty list has 0 entries."
 abbrev pub entriesOf : List ℕ → Answer (List (List ℕ))
