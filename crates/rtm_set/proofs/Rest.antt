@@ -2,23 +2,20 @@
 -- Assumes nothing.
 use Prim.Native.Nat.{ℕ, zero, suc, _<_, _≤_}
 use mathlib.Core.Path.{_≡_, refl, ap, _∙_}
-use mathlib.Core.Bool.{Bool, true, false, cond, not, _&&_, false≢true}
+use mathlib.Core.Bool.{Bool, true, false, cond, not, _&&_, and-eq-true-iff}
 use mathlib.Core.List.{List, [], _∷_}
 use native.Mathlib.Omega.{arith}
-use borrow.Author.Tests.{eq-eqb, ne-eqb, le-ltb, eqb-false, leb-true, not-true, not-false}
+use borrow.Author.Tests.{eq-eqb, ne-eqb, le-ltb, eqb-true, eqb-false, leb-true, not-true, not-false}
 use lib.Dec.{eqb, leb}
 use lib.ListN.{length, getD, take, drop, length-drop}
 use Rattle.refusal.specs.Answer.{Answer, value, refused, refuse, andThen}
 use Rattle.rtm_set.specs.Entries.{frontSize, isEntry, entriesWithin, entriesOf}
 
-both : (a b : Bool) → (a && b) ≡ true → (a ≡ true) × (b ≡ true)
-both true b e = (refl, e)
-both false b e = absurd (false≢true e)
-
 -- an entry of n octets at the front
 pub record Front (s : List ℕ) (n : ℕ) : Type 0 where
   pub is : isEntry s ≡ true
   pub size : n ≡ frontSize s
+  pub told : getD s 1 0 ≡ n
   pub some : 0 < n
   pub fits : n ≤ length s
 
@@ -26,12 +23,14 @@ pub record Front (s : List ℕ) (n : ℕ) : Type 0 where
 module _ (s : List ℕ) (n : ℕ) (e : n ≡ cond (isEntry s) (frontSize s) 0) where
   pub front : isEntry s ≡ true → Front s n
   front is =
-      let known = both (not (eqb (frontSize s) 0)) (eqb (getD s 1 0) (frontSize s) && leb (frontSize s) (length s)) is in
-      let whole = both (eqb (getD s 1 0) (frontSize s)) (leb (frontSize s) (length s)) (known .1) in
-      let size : n ≡ frontSize s = rw is at e in
-      let no = eqb-false (frontSize s) 0 (not-true (eqb (frontSize s) 0) (known .0)) in
-      let fits = leb-true (frontSize s) (length s) (whole .1) in
-      record { is = is; size = size; some = omega arith; fits = omega arith }
+      let m = frontSize s in
+      let known = and-eq-true-iff (not (eqb m 0)) (eqb (getD s 1 0) m && leb m (length s)) .0 is in
+      let whole = and-eq-true-iff (eqb (getD s 1 0) m) (leb m (length s)) .0 (known .1) in
+      let size : n ≡ m = rw is at e in
+      let some = eqb-false m 0 (not-true (eqb m 0) (known .0)) in
+      let told = eqb-true (getD s 1 0) m (whole .0) in
+      let fits = leb-true m (length s) (whole .1) in
+      record { is = is; size = size; told = omega arith; some = omega arith; fits = omega arith }
 
   pub sized : (n ≡ 0 → ⊥) → Front s n
   sized some = go (isEntry s) refl e

@@ -1,10 +1,9 @@
-// The layout of an entry, in the order of RFC 8169's figures: the first octet of each field.
+// The layout of an entry, in the order of RFC 8169's figures: type, length, two reserved octets, the
+// address.
 
 pub const TYPE: usize = 0;
 
 pub const LENGTH: usize = 1;
-
-pub const ADDRESS: usize = 4;
 
 // The types, and the whole length of an entry of each.
 pub const IPV4: u8 = 1;

@@ -31,7 +31,7 @@ fn entry_size(entry_type: u8) -> usize
 fn front(list: &[u8]) -> usize
     ensures { λ r. ⌜ r ≡ cond (isEntry (now (list .entry))) (frontSize (now (list .entry))) 0 ⌝ }
 {
-    if list.len() < layout::ADDRESS {
+    if list.len() <= layout::LENGTH {
         return 0;
     }
     let size = entry_size(list[layout::TYPE]);
@@ -72,8 +72,8 @@ pub fn count(list: &[u8]) -> Count
     count_rest(list)
 }
 
-// Whether the list has an entry at a place, counted from 0: refusals 19, 20, also for an entry
-// beyond the place, and 21.
+// Whether the list has an entry at a place, counted from 0: refusals 19, 20 (also for an entry
+// beyond the place) and 21.
 pub fn lookup(list: &[u8], place: usize) -> Lookup
     ensures { λ r. ⌜ lookupAnswer r (partBy (entryOf (now (list .entry)) place)) ≡ entryOf (now (list .entry)) place ⌝ }
 {
@@ -88,7 +88,7 @@ pub fn lookup(list: &[u8], place: usize) -> Lookup
     }
 }
 
-// The entry at a place that has one.
+// The entry at a place that has one: the front, or an entry of the rest.
 fn entry_rest(list: &[u8], place: usize) -> &[u8]
     requires { ⌜ value (partBy (entryOf (now list) place)) ≡ entryOf (now list) place ⌝ }
     ensures { λ r. ⌜ now r ≡ partBy (entryOf (now (list .entry)) place) ⌝ }

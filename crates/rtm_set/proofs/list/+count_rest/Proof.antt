@@ -1,8 +1,8 @@
--- `count_rest` meets its contract: the count is 0 at the end, refused where the front is no entry, and else one more than that of the
--- rest. The measure is the number of octets left.
+-- `count_rest` meets its contract: 0 at the end, 20 where the front is no entry, else one more than the rest; the octets left fall.
 -- Assumes nothing.
 use Prim.Native.Nat.{ℕ, _+_, _<_}
 use mathlib.Core.Path.{_≡_, sym, ap, _∙_}
+use mathlib.Core.List.{List}
 use native.Mathlib.Omega.{arith}
 use borrow.Author.Needs.{needs}
 use borrow.Fn.Kinds.{In}
@@ -45,9 +45,15 @@ module _ (t : ℕ) where
       let none = unsized s (c .before .front .result) (c .before .front .ensures) (c .if2 .taken) in
       sym (ap counted (entries-bad s (start .pre .1) (c .before .before .if1 .left) none))
 
-  -- an entry is at the front
-  entry : (c : lts.Else2 calls given reads.Post) → Front (c .before .before .before .before .args .list .now) (c .before .front .result)
-  entry c = sized (c .before .before .before .before .args .list .now) (c .before .front .result) (c .before .front .ensures) (c .if2 .left)
+  -- behind the two tests: the list, and the size of the entry at its front
+  abbrev whole : lts.Else2 calls given reads.Post → List ℕ
+  whole c = c .before .before .before .before .args .list .now
+
+  abbrev size : lts.Else2 calls given reads.Post → ℕ
+  size c = c .before .front .result
+
+  entry : (c : lts.Else2 calls given reads.Post) → Front (whole c) (size c)
+  entry c = sized (whole c) (size c) (c .before .front .ensures) (c .if2 .left)
 
   sub-count-rest : lts.Need-sub-count-rest calls given reads.Post
   sub-count-rest c = omega (arith, entry c .fits)
@@ -63,17 +69,16 @@ module _ (t : ℕ) where
       let f = entry (c .before) in
       (rw rest (simp length-drop (omega arith)), rw rest (simp length-drop (omega arith)))
 
-  -- the rest was counted
-  known : (c : lts.After-count-rest calls given reads.Post) → countAnswer (c .count-rest .result) ≡ countOf (drop (c .before .before .before .front .result) (c .before .before .before .before .before .before .args .list .now))
-  known c =
-      c .count-rest .ensures
-      ∙ ap countOf (rest (c .before .before .before .before .before .before .args .list .now) (c .before .before .before .front .result))
+  -- the rest was counted, and the whole has one more
+  counted-rest : (c : lts.After-count-rest calls given reads.Post) → countAnswer (c .count-rest .result) ≡ countOf (drop (size (c .before .before)) (whole (c .before .before)))
+  counted-rest c = c .count-rest .ensures ∙ ap countOf (rest (whole (c .before .before)) (size (c .before .before)))
 
-  answered : (c : lts.After-count-rest calls given reads.Post) (r : Count) → c .count-rest .result ≡ r → more (countAnswer r) ≡ countOf (c .before .before .before .before .before .before .args .list .now)
-  answered c r e =
-      let start = c .before .before .before .before .before .before in
-      ap (λ (x : Count). more (countAnswer x)) (sym e) ∙ ap more (known c)
-      ∙ sym (count-rest (start .args .list .now) (c .before .before .before .front .result) (entry (c .before .before)) (start .pre .1))
+  counted-whole : (c : lts.After-count-rest calls given reads.Post) (r : Count) → c .count-rest .result ≡ r → more (countAnswer r) ≡ countOf (whole (c .before .before))
+  counted-whole c r e =
+      let d = c .before .before in
+      ap (λ (x : Count). more (countAnswer x)) (sym e)
+      ∙ ap more (counted-rest c)
+      ∙ sym (count-rest (whole d) (size d) (entry d) (d .before .before .before .before .pre .1))
 
   enum-known-n : lts.Need-enum-known-n calls given reads.Post
   enum-known-n c = search needs
@@ -81,19 +86,18 @@ module _ (t : ℕ) where
   add-t12 : lts.Need-add-t12 calls given reads.Post
   add-t12 c =
       let call = c .before .before .before in
-      let s = call .before .before .before .before .before .before .args .list .now in
-      let n = call .before .before .before .front .result in
-      let few = count-few (drop n s) (c .before .n .given .0 .0) (sym (known call) ∙ ap countAnswer (c .before .n .given .1)) in
-      omega (arith, length-drop n s)
+      let r = drop (size (call .before .before)) (whole (call .before .before)) in
+      let few = count-few r (c .before .n .given .0 .0) (sym (counted-rest call) ∙ ap countAnswer (c .before .n .given .1)) in
+      omega (arith, length-drop (size (call .before .before)) (whole (call .before .before)))
 
   enum-known-n-2 : lts.Need-enum-known-n-2 calls given reads.Post
   enum-known-n-2 c = search needs
 
   returns-3 : lts.Need-returns-3 calls given reads.Post
-  returns-3 c = answered (c .before .before .before) _ (c .before .n .given .1)
+  returns-3 c = counted-whole (c .before .before .before) _ (c .before .n .given .1)
 
   returns-4 : lts.Need-returns-4 calls given reads.Post
-  returns-4 c = answered (c .before .before .before) _ (c .before .n2 .given .1)
+  returns-4 c = counted-whole (c .before .before .before) _ (c .before .n2 .given .1)
 
 pub +count-rest-spec : {M : Type 1} → statement M
 +count-rest-spec = close octets-left λ t. lts.spec (calls t) (given t) reads.Post

@@ -1,5 +1,4 @@
--- `entry_rest` meets its contract: the entry at the place is the front, or an entry of the rest. The measure is the number of octets
--- left.
+-- `entry_rest` meets its contract: the entry at the place is the front, or one of the rest; the octets left fall.
 -- Assumes nothing.
 use Prim.Native.Nat.{ℕ, _-_, _<_}
 use mathlib.Core.Path.{_≡_, sym, ap, subst, _∙_}
@@ -36,21 +35,31 @@ module _ (t : ℕ) where
   front-requires : lts.Need-front-requires calls given reads.Post
   front-requires c κs = search needs
 
-  -- an entry is at the front
-  entry : (c : lts.After-front calls given reads.Post) → Front (c .before .before .args .list .now) (c .front .result)
-  entry c =
-      let a = c .before .before .args in
-      front (a .list .now) (c .front .result) (c .front .ensures) (has-front (a .list .now) (a .place) (c .before .before .pre .1))
+  -- behind `front`: the list, the place, and the size of the entry at the front
+  abbrev whole : lts.After-front calls given reads.Post → List ℕ
+  whole c = c .before .before .args .list .now
+
+  abbrev place : lts.After-front calls given reads.Post → ℕ
+  place c = c .before .before .args .place
+
+  abbrev size : lts.After-front calls given reads.Post → ℕ
+  size c = c .front .result
+
+  has : (c : lts.After-front calls given reads.Post) → value (partBy (entryOf (whole c) (place c))) ≡ entryOf (whole c) (place c)
+  has c = c .before .before .pre .1
+
+  entry : (c : lts.After-front calls given reads.Post) → Front (whole c) (size c)
+  entry c = front (whole c) (size c) (c .front .ensures) (has-front (whole c) (place c) (has c))
 
   slice-aggregate-result : lts.Need-slice-aggregate-result calls given reads.Post
   slice-aggregate-result c =
-      let f = entry (c .before .before) in
-      sym (length-take-le (c .before .before .front .result) (c .before .before .before .before .args .list .now) (f .fits))
+      let d = c .before .before in
+      sym (length-take-le (size d) (whole d) (entry d .fits))
 
   returns : lts.Need-returns calls given reads.Post
   returns c =
-      let start = c .before .before .before .before in
-      sym (entry-here (start .args .list .now) (start .args .place) (start .pre .1) (c .before .before .front .result) (entry (c .before .before)) (c .before .if1 .taken))
+      let d = c .before .before in
+      sym (entry-here (whole d) (place d) (has d) (size d) (entry d) (c .before .if1 .taken))
 
   sub-entry-rest : lts.Need-sub-entry-rest calls given reads.Post
   sub-entry-rest c = omega (arith, entry (c .before) .fits)
@@ -65,18 +74,16 @@ module _ (t : ℕ) where
   sub-entry-rest-2 c = search needs
 
   -- the entry is one of the rest, as the code makes it
-  later : (c : lts.Else1 calls given reads.Post) → entryOf (c .before .before .before .args .list .now) (c .before .before .before .args .place) ≡ entryOf (take (length (c .before .before .before .args .list .now) - c .before .front .result) (drop (c .before .front .result) (c .before .before .before .args .list .now))) (c .before .before .before .args .place - 1)
+  later : (c : lts.Else1 calls given reads.Post) → entryOf (whole (c .before)) (place (c .before)) ≡ entryOf (take (length (whole (c .before)) - size (c .before)) (drop (size (c .before)) (whole (c .before)))) (place (c .before) - 1)
   later c =
-      let start = c .before .before .before in
-      let s = start .args .list .now in
-      let k = start .args .place in
-      let n = c .before .front .result in
-      entry-later s k (start .pre .1) n (entry (c .before)) (c .if1 .left) ∙ ap (λ (r : List ℕ). entryOf r (k - 1)) (sym (rest s n))
+      let d = c .before in
+      entry-later (whole d) (place d) (has d) (size d) (entry d) (c .if1 .left)
+      ∙ ap (λ (r : List ℕ). entryOf r (place d - 1)) (sym (rest (whole d) (size d)))
 
   entry-rest-requires : lts.Need-entry-rest-requires calls given reads.Post
   entry-rest-requires c κs =
       let f = entry (c .before .before) in
-      (rw rest (simp length-drop (omega arith)), subst (λ (a : Answer (List ℕ)). value (partBy a) ≡ a) (later (c .before)) (c .before .before .before .before .pre .1))
+      (rw rest (simp length-drop (omega arith)), subst (λ (a : Answer (List ℕ)). value (partBy a) ≡ a) (later (c .before)) (has (c .before .before)))
 
   returns-2 : lts.Need-returns-2 calls given reads.Post
   returns-2 c = c .entry-rest .ensures ∙ ap partBy (sym (later (c .before .before)))

@@ -1,33 +1,25 @@
--- `front` meets its contract: each test that fails is one of `isEntry`; less than a head is no entry, since the shortest has 8 octets.
+-- `front` meets its contract: its tests are those of `isEntry`.
 -- Assumes nothing.
 use native.Mathlib.Omega.{arith}
-use Prim.Native.Nat.{ℕ, zero, suc, _<_, _≤_}
+use Prim.Native.Nat.{ℕ, zero, suc, _≤_}
 use mathlib.Core.Path.{_≡_, refl, _∙_}
 use mathlib.Core.Bool.{Bool, true, false, cond, not, _&&_, and-false}
 use mathlib.Core.List.{List}
 use borrow.Author.Tests.{eq-eqb, ne-eqb, le-leb, lt-leb}
 use lib.Dec.{eqb, eqb·suc-zero}
-use lib.ListN.{length, getD}
-use Rattle.rtm_set.specs.Entries.{entrySize, frontSize, isEntry}
+use lib.ListN.{length, getD, List·getD-eq-default}
+use Rattle.rtm_set.specs.Entries.{frontSize, isEntry}
 use Rattle.rtm_set.proofs.Rest.{front}
 use borrow.Author.Needs.{needs}
 use Rattle.rtm_set.proofs.list.front.Statement.{statement}
 use Rattle.rtm_set.proofs.list.front.Tie as tie
 
-large : (t : ℕ) → 0 < entrySize t → 8 ≤ entrySize t
-large t = go (eqb t 1) (eqb t 2) (eqb t 3)
-  where
-    go : (a b c : Bool) → 0 < cond a 8 (cond b 20 (cond c 12 0)) → 8 ≤ cond a 8 (cond b 20 (cond c 12 0))
-    go true b c h = omega arith
-    go false true c h = omega arith
-    go false false true h = omega arith
-    go false false false h = omega arith
-
-no-head : (s : List ℕ) → length s < 4 → 0 ≡ cond (isEntry s) (frontSize s) 0
-no-head s short = go (isEntry s) refl
+-- the length is 0 where its octet is past the end
+no-length : (s : List ℕ) → length s ≤ 1 → 0 ≡ cond (isEntry s) (frontSize s) 0
+no-length s short = go (isEntry s) refl
   where
     go : (b : Bool) → isEntry s ≡ b → 0 ≡ cond b (frontSize s) 0
-    go true is = let f = front s (frontSize s) (rw is) is in absurd (omega (arith, large (getD s 0 0) (f .some)))
+    go true is = let f = front s (frontSize s) (rw is) is in absurd (omega (arith, List·getD-eq-default s 0 {n = 1} short))
     go false is = refl
 
 -- the size of an unknown type is 0 in any case
@@ -36,7 +28,7 @@ same-size zero = refl
 same-size (suc n) = rw (eqb·suc-zero n)
 
 returns : tie.Need-returns
-returns c = no-head (c .before .before .args .list .now) (omega arith)
+returns c = no-length (c .before .before .args .list .now) (omega arith)
 
 shared-slice-read-entry-size : tie.Need-shared-slice-read-entry-size
 shared-slice-read-entry-size c = search needs

@@ -1,7 +1,5 @@
 -- `lookup` meets its contract: the count decides.
 -- Assumes nothing.
-use native.Mathlib.Omega.{arith}
-use Prim.Native.Nat.{ℕ}
 use mathlib.Core.Path.{_≡_, sym, ap, _∙_}
 use Rattle.rtm_set.specs.declared.answers.Count.{Count}
 use Rattle.rtm_set.specs.Entries.{entriesOf, countOf}
