@@ -2,10 +2,10 @@
 use Prim.Native.Nat.{ℕ}
 use mathlib.Core.List.{List}
 use Rattle.refusal.specs.Answer.{Answer, value, refused}
-use Rattle.rtm_set.specs.declared.Count.{Count}
-use Rattle.rtm_set.specs.declared.Count.the-variants as count
-use Rattle.rtm_set.specs.declared.Lookup.{Lookup}
-use Rattle.rtm_set.specs.declared.Lookup.the-variants as lookup
+use Rattle.rtm_set.specs.declared.answers.Count.{Count}
+use Rattle.rtm_set.specs.declared.answers.Count.the-variants as count
+use Rattle.rtm_set.specs.declared.answers.Lookup.{Lookup}
+use Rattle.rtm_set.specs.declared.answers.Lookup.the-variants as lookup
 
 abbrev pub countAnswer : Count → Answer ℕ
 countAnswer (count.Entries n) = value n
