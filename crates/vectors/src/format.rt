@@ -1,5 +1,6 @@
 // How a case is laid out, and how its line is written.
 use libc::STDOUT_FILENO;
+use node::Answer;
 use stamp::Stamp;
 ghost use mathlib.Core.Path.{_≡_};
 ghost use lib.ListN.{length};
@@ -25,6 +26,17 @@ fn front(s: &[u8], n: usize) -> &[u8] {
 // A field of any size: two octets of size, and the octets.
 pub(crate) fn counted(s: &[u8]) -> &[u8] {
     front(after(s, 2), octets::read16(s, 0) as usize)
+}
+
+// Copies s to the start of the buffer and answers that part, which has no octets where s does not
+// fit.
+pub(crate) fn copied<'a>(buffer: &'a mut [u8], s: &[u8]) -> &'a mut [u8] {
+    if buffer.len() < s.len() {
+        return &mut buffer[0..0];
+    }
+    let part = &mut buffer[0..s.len()];
+    octets::put(part, 0, s);
+    part
 }
 
 // A stamp: its seconds and its nanoseconds.
@@ -76,4 +88,16 @@ pub(crate) fn hex(word: &[u8], s: &[u8]) {
 
 pub(crate) fn refused(n: u8) {
     number(b" refused ", n as u64);
+}
+
+// What a node answers.
+pub(crate) fn answer(answer: Answer) {
+    match answer {
+        Answer::Updated => text(b" updated"),
+        Answer::Passed => text(b" passed"),
+        Answer::Created => text(b" created"),
+        Answer::Waiting => text(b" waiting"),
+        Answer::Added => text(b" added"),
+        Answer::Refused(n) => refused(n),
+    }
 }

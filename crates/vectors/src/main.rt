@@ -2,8 +2,14 @@
 // two octets, the size of its body; and the body. A case of an operation that is not known prints
 // nothing.
 mod format;
+mod joins;
+mod lists;
+mod one_step;
 mod read;
 mod residences;
+mod tables;
+mod tick;
+mod two_step;
 mod write;
 
 fn run(operation: u8, body: &[u8]) {
@@ -11,6 +17,12 @@ fn run(operation: u8, body: &[u8]) {
         1 => read::run(body),
         2 => write::run(body),
         3 => residences::run(body),
+        4 => one_step::run(body),
+        5 => two_step::run(body),
+        6 => tick::run(body),
+        7 => joins::run(body),
+        8 => lists::run_count(body),
+        9 => lists::run_entry(body),
         _ => {}
     }
 }

@@ -6,8 +6,8 @@ pub(crate) fn run(body: &[u8]) {
     format::text(b"residence");
     match stamp::residence_between(format::stamp(body), format::stamp(format::after(body, 8))) {
         Residence::Units(n) => format::number(b" units ", n),
-        Residence::InvalidStamp => format::refused(9),
-        Residence::TooLong => format::refused(10),
+        Residence::InvalidStamp => format::refused(refusal::INVALID_STAMP),
+        Residence::TooLong => format::refused(refusal::TOO_LONG_RESIDENCE),
     }
     format::text(b"\n");
 }

@@ -1,0 +1,19 @@
+// Operation 7: a Sync and a Follow_Up joined at the egress.
+use crate::format;
+use egress::Joined;
+
+fn join<'a>(sync: &'a [u8], follow_up: &'a [u8]) {
+    format::text(b"join");
+    match egress::join(sync, follow_up) {
+        Joined::Total(total) => format::signed(b" total ", total),
+        Joined::Refused(n) => format::refused(n),
+    }
+    format::hex(b" packet ", egress::shown(sync, follow_up));
+    format::text(b"\n");
+}
+
+pub(crate) fn run(body: &[u8]) {
+    let sync = format::counted(body);
+    let follow_up = format::counted(format::after(format::after(body, 2), sync.len()));
+    join(sync, follow_up);
+}

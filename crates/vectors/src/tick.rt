@@ -1,0 +1,10 @@
+// Operation 6: a tick.
+use crate::format;
+use crate::tables;
+
+pub(crate) fn run(body: &[u8]) {
+    let ticked = tables::read(body).tick();
+    format::number(b"tick ", ticked.emptied as u64);
+    tables::print(ticked.table);
+    format::text(b"\n");
+}
