@@ -1,0 +1,17 @@
+// Runs the cases of document 01 that are not marked for proof, with more of their kind, and prints
+// a line for each.
+mod additions;
+mod headers;
+mod joins;
+mod lists;
+mod messages;
+mod print;
+mod residences;
+
+fn main() {
+    residences::run();
+    lists::run();
+    additions::run();
+    joins::run();
+    headers::run();
+}

@@ -1,0 +1,59 @@
+// Messages of one port, as `message::write` writes them.
+use message::Fields;
+use message::Header;
+use message::SubTlv;
+use message::Written;
+
+pub(crate) const CLOCK: u64 = 0x0001_0203_0405_0607;
+
+pub(crate) const PORT: u16 = 1;
+
+pub(crate) const SYNC: u8 = 0;
+
+pub(crate) const FOLLOW_UP: u8 = 8;
+
+// A message of any Type with this pad: what it says beside the pad is that of a Sync with S clear.
+pub(crate) fn of_type(message_type: u16, pad: i64) -> Fields {
+    let header = Header { message_type, pad };
+    let sub_tlv = SubTlv {
+        two_step: false,
+        ptp_type: SYNC,
+        clock: CLOCK,
+        port: PORT,
+        sequence: 258,
+    };
+    Fields { header, sub_tlv }
+}
+
+// A message of type 3 with S set.
+pub(crate) fn with_flag(ptp_type: u8, sequence: u16, pad: i64) -> Fields {
+    let header = Header {
+        message_type: 3,
+        pad,
+    };
+    let sub_tlv = SubTlv {
+        two_step: true,
+        ptp_type,
+        clock: CLOCK,
+        port: PORT,
+        sequence,
+    };
+    Fields { header, sub_tlv }
+}
+
+// Writes a message at the start of the buffer and answers its size, 0 where it is refused.
+pub(crate) fn write(buffer: &mut [u8], fields: Fields, carried: &[u8]) -> usize {
+    match message::write(buffer, fields, carried) {
+        Written::Size(n) => n,
+        Written::Refused(_) => 0,
+    }
+}
+
+// The first n octets, none where there are fewer.
+pub(crate) fn front(buffer: &[u8], n: usize) -> &[u8] {
+    if n <= buffer.len() {
+        &buffer[0..n]
+    } else {
+        &buffer[..0]
+    }
+}
