@@ -8,10 +8,6 @@ use records::Record;
 use stamp::Stamp;
 use table::Table;
 
-const LOWEST: i64 = -9_223_372_036_854_775_808;
-
-const HIGHEST: i64 = 9_223_372_036_854_775_807;
-
 // A stamp in second 0.
 fn at(nanoseconds: u32) -> Stamp {
     Stamp {
@@ -41,7 +37,7 @@ fn waiting(residence: u64) -> Table {
     let identity = Identity {
         clock: messages::CLOCK,
         port: messages::PORT,
-        sequence: 258,
+        sequence: messages::SEQUENCE,
     };
     let entered = Table::new().add(identity, residence);
     entered.table
@@ -72,7 +68,7 @@ fn two_step(pad: i64, residence: u64) {
     print::signed(b"two-step, pad ", pad);
     print::number(b" and record ", residence);
     print::text(b": ");
-    let fields = messages::with_flag(messages::FOLLOW_UP, 258, pad);
+    let fields = messages::with_flag(messages::FOLLOW_UP, messages::SEQUENCE, pad);
     let mut message = [0u8; 36];
     messages::write(&mut message, fields, b"");
     gather(&mut message, residence);
@@ -84,10 +80,10 @@ pub(crate) fn run() {
     one_step(-1, 1);
     one_step(0, 1);
     one_step(1, 1);
-    one_step(HIGHEST - 65_536, 1);
-    one_step(HIGHEST - 65_535, 1);
-    one_step(LOWEST, 0);
-    one_step(LOWEST, 1);
-    two_step(LOWEST, 0xFFFF_FFFF_FFFF_FFFF);
-    two_step(LOWEST + 1, 0xFFFF_FFFF_FFFF_FFFF);
+    one_step(messages::HIGHEST - 65_536, 1);
+    one_step(messages::HIGHEST - 65_535, 1);
+    one_step(messages::LOWEST, 0);
+    one_step(messages::LOWEST, 1);
+    two_step(messages::LOWEST, 0xFFFF_FFFF_FFFF_FFFF);
+    two_step(messages::LOWEST + 1, 0xFFFF_FFFF_FFFF_FFFF);
 }

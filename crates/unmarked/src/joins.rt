@@ -3,10 +3,6 @@ use crate::messages;
 use crate::print;
 use egress::Joined;
 
-const LOWEST: i64 = -9_223_372_036_854_775_808;
-
-const HIGHEST: i64 = 9_223_372_036_854_775_807;
-
 fn join<'a>(sync: &'a [u8], follow_up: &'a [u8]) {
     match egress::join(sync, follow_up) {
         Joined::Total(total) => print::signed(b"total ", total),
@@ -16,28 +12,36 @@ fn join<'a>(sync: &'a [u8], follow_up: &'a [u8]) {
     print::text(b"\n");
 }
 
-// A Sync of sequence 258 that carries `first`, and a Follow_Up that carries `second`.
-fn show(sync_pad: i64, first: &[u8], pad: i64, sequence: u16, second: &[u8]) {
-    print::signed(b"join, pads ", sync_pad);
-    print::signed(b" and ", pad);
-    print::number(b", sequences 258 and ", sequence as u64);
+// Joins a Sync that carries `first` and a Follow_Up that carries `second`.
+fn join_written(first_pad: i64, first: &[u8], second_pad: i64, sequence: u16, second: &[u8]) {
+    let first_fields = messages::with_flag(messages::SYNC, messages::SEQUENCE, first_pad);
+    let second_fields = messages::with_flag(messages::FOLLOW_UP, sequence, second_pad);
+    let mut sync = [0u8; 64];
+    let mut follow_up = [0u8; 64];
+    let first_size = messages::write(&mut sync, first_fields, first);
+    let second_size = messages::write(&mut follow_up, second_fields, second);
+    join(
+        messages::front(&sync, first_size),
+        messages::front(&follow_up, second_size),
+    );
+}
+
+fn show(first_pad: i64, first: &[u8], second_pad: i64, sequence: u16, second: &[u8]) {
+    print::signed(b"join, pads ", first_pad);
+    print::signed(b" and ", second_pad);
+    print::number(b", sequences ", messages::SEQUENCE as u64);
+    print::number(b" and ", sequence as u64);
     print::hex(b", packets ", first);
     print::hex(b" and ", second);
     print::text(b": ");
-    let mut sync = [0u8; 64];
-    let mut follow_up = [0u8; 64];
-    let fields = messages::with_flag(messages::SYNC, 258, sync_pad);
-    let n = messages::write(&mut sync, fields, first);
-    let others = messages::with_flag(messages::FOLLOW_UP, sequence, pad);
-    let m = messages::write(&mut follow_up, others, second);
-    join(messages::front(&sync, n), messages::front(&follow_up, m));
+    join_written(first_pad, first, second_pad, sequence, second);
 }
 
 pub(crate) fn run() {
-    show(HIGHEST, b"\x0A", 1, 258, b"\x0B");
-    show(LOWEST, b"\x0A", -1, 258, b"\x0B");
-    show(HIGHEST, b"\x0A", LOWEST, 258, b"\x0B");
-    show(LOWEST, b"\x0A\x0C", HIGHEST, 258, b"");
+    show(messages::HIGHEST, b"\x0A", 1, 258, b"\x0B");
+    show(messages::LOWEST, b"\x0A", -1, 258, b"\x0B");
+    show(messages::HIGHEST, b"\x0A", messages::LOWEST, 258, b"\x0B");
+    show(messages::LOWEST, b"\x0A\x0C", messages::HIGHEST, 258, b"");
     show(0, b"", 0, 258, b"");
     show(3, b"\x0A", 4, 259, b"\x0B");
 }

@@ -8,9 +8,16 @@ pub(crate) const CLOCK: u64 = 0x0001_0203_0405_0607;
 
 pub(crate) const PORT: u16 = 1;
 
+pub(crate) const SEQUENCE: u16 = 258;
+
 pub(crate) const SYNC: u8 = 0;
 
 pub(crate) const FOLLOW_UP: u8 = 8;
+
+// The ends of the pad's range.
+pub(crate) const LOWEST: i64 = -9_223_372_036_854_775_808;
+
+pub(crate) const HIGHEST: i64 = 9_223_372_036_854_775_807;
 
 // A message of any Type with this pad: what it says beside the pad is that of a Sync with S clear.
 pub(crate) fn of_type(message_type: u16, pad: i64) -> Fields {
@@ -20,7 +27,7 @@ pub(crate) fn of_type(message_type: u16, pad: i64) -> Fields {
         ptp_type: SYNC,
         clock: CLOCK,
         port: PORT,
-        sequence: 258,
+        sequence: SEQUENCE,
     };
     Fields { header, sub_tlv }
 }
