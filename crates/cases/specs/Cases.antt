@@ -1,18 +1,17 @@
 -- "Cases marked ● are the set for proof, one table and a single claim over its rows." (document 01, Numbers to check against)
-use Prim.Native.Nat.{ℕ, suc}
+use Prim.Native.Nat.{ℕ}
 use mathlib.Core.Path.{_≡_}
 use mathlib.Core.List.{List, [], _∷_, _++_, map}
 use lib.IntN.{ℤ, pos, negsuc}
 use lib.ListN.{take, replicate}
-use Rattle.refusal.specs.Answer.{Answer, value, refused, andThen}
+use Rattle.refusal.specs.Answer.{Answer, value, refused}
 use Rattle.stamp.specs.declared.Stamp.{Stamp}
 use Rattle.stamp.specs.Stamp.{nanosecondsOf, residenceOf}
-use Rattle.message.specs.declared.fields.Header.{Header}
 use Rattle.message.specs.Read.{Message, plain, readOf}
 use Rattle.message.specs.Write.{plainOctets}
 use Rattle.records.specs.Slots.{Slots, zeros}
 use Rattle.rules.specs.Change.{padOf}
-use Rattle.rules.specs.Rules.{Mode, oneStep, twoStep, Call, Word, updated, created, waiting, added, Reply, Done, callOf}
+use Rattle.rules.specs.Rules.{Mode, oneStep, twoStep, Call, Word, updated, created, Reply, callOf}
 use Rattle.rtm.specs.Stamped.{stampedResidence}
 use Rattle.egress.specs.Join.{joinOf}
 

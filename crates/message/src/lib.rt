@@ -1,4 +1,4 @@
-// RTM messages on the G-ACh (RFC 8169, 4; document 01, The RTM message): their layout, the reader
+// RTM messages on the G-ACh (RFC 8169, 3; document 01, The RTM message): their layout, the reader
 // with its sub-TLV reader and the carried packet, and the writer.
 mod fields;
 pub mod layout;

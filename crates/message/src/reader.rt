@@ -36,27 +36,30 @@ fn read_header(s: &[u8]) -> HeaderReading
     if layout::LARGEST < s.len() {
         return HeaderReading::Refused(refusal::TOO_LONG);
     }
+    let size = s.len() - layout::VALUE;
     let first = s[0];
+    let channel_type = octets::read16(s, layout::CHANNEL_TYPE);
+    let length = octets::read16(s, layout::LENGTH) as usize;
+    let message_type = octets::read16(s, layout::TYPE);
+    let pad = octets::read_signed(s, layout::SCRATCH_PAD);
     if first / 16 != 1 {
         return HeaderReading::Refused(refusal::NOT_RTM);
     }
-    if octets::read16(s, layout::CHANNEL_TYPE) != 0x000F {
+    if channel_type != 0x000F {
         return HeaderReading::Refused(refusal::NOT_RTM);
     }
     if first % 16 != 0 {
         return HeaderReading::Refused(refusal::VERSION);
     }
-    if octets::read16(s, layout::LENGTH) as usize != s.len() - layout::VALUE {
+    if length != size {
         return HeaderReading::Refused(refusal::LENGTH);
     }
-    let message_type = octets::read16(s, layout::TYPE);
     if message_type < 1 {
         return HeaderReading::Refused(refusal::TYPE);
     }
     if 5 < message_type {
         return HeaderReading::Refused(refusal::TYPE);
     }
-    let pad = octets::read_signed(s, layout::SCRATCH_PAD);
     HeaderReading::Sound(Header { message_type, pad })
 }
 

@@ -1,7 +1,8 @@
 -- The answers of a node, in document 01's words and numbers.
 use Prim.Native.Nat.{ℕ}
-use mathlib.Core.List.{List, []}
+use mathlib.Core.List.{List}
 use Rattle.refusal.specs.Answer as answer
+use Rattle.records.specs.Slots.{Slots}
 use Rattle.rules.specs.Rules as rules
 use Rattle.node.specs.declared.answer.Answer.{Answer}
 use Rattle.node.specs.declared.answer.Answer.the-variants.{Updated, Passed, Created, Waiting, Added, Refused}
@@ -19,16 +20,17 @@ wordAnswer Waiting = answer.value rules.waiting
 wordAnswer Added = answer.value rules.added
 wordAnswer (Refused n) = answer.refused n
 
--- the answer with message and output afterwards; and of a one-step call, which has no output
-abbrev pub repliedWith : Answer → List ℕ → List ℕ → rules.Reply
-repliedWith r m o = record { answer = wordAnswer r; message = m; output = o }
-
-abbrev pub replied : Answer → List ℕ → rules.Reply
-replied r m = repliedWith r m []
+-- the answer, with message and output afterwards
+abbrev pub replied : Answer → List ℕ → List ℕ → rules.Reply
+replied r m o = record { answer = wordAnswer r; message = m; output = o }
 
 -- and with the table handed back
 abbrev pub done : Done → List ℕ → List ℕ → rules.Done
-done r m o = record { reply = repliedWith (r .answer) m o; slots = r .table .slots }
+done r m o = record { reply = replied (r .answer) m o; slots = r .table .slots }
+
+-- a one-step call is lent no output and handed no table: whatever they are, they stay
+abbrev pub doneAlone : Answer → List ℕ → List ℕ → Slots → rules.Done
+doneAlone r m o t = record { reply = replied r m o; slots = t }
 
 -- the private answers
 abbrev pub unitsAnswer : Accepted → answer.Answer ℕ

@@ -8,14 +8,17 @@ use crate::kind::Handling;
 use residence::Residence;
 use scratch_pad::Sum;
 ghost use mathlib.Core.Path.{_≡_};
-ghost use Rattle.rules.specs.Rules.{oneStepReply, update, kindOf};
+ghost use Prim.Native.Nat.{ℕ};
+ghost use mathlib.Core.List.{List};
+ghost use Rattle.records.specs.Slots.{Slots};
+ghost use Rattle.rules.specs.Rules.{update, callOf};
 ghost use Rattle.residence.specs.Residence.{acceptedOf};
-ghost use Rattle.node.specs.Answers.{replied};
+ghost use Rattle.node.specs.Answers.{replied, doneAlone};
 ghost use Rattle.node.specs.Calls.{oneStepCall};
 
 // Adds the residence: refusals 9, 10 and 11.
 fn update_pad(message: &mut [u8], residence: Residence) -> Answer
-    ensures { λ r. ⌜ replied r (now (message .exit)) ≡ update (oneStepCall (now (message .entry)) residence) (acceptedOf residence) ⌝ }
+    ensures { λ r. ⌜ ((o : List ℕ) → replied r (now (message .exit)) o ≡ update (oneStepCall (now (message .entry)) o residence) (acceptedOf residence)) ⌝ }
 {
     match answer::accept(residence) {
         Accepted::Units(units) => match change::add_to_pad(message, units) {
@@ -27,9 +30,12 @@ fn update_pad(message: &mut [u8], residence: Residence) -> Answer
 }
 
 // A message at a one-step node: updated, or passed with its residence not looked at; refusals 1 to
-// 8 of reading, then 9, 10 and 11. A refusal leaves the message as it came.
+// 8 of reading, then 9, 10 and 11. A refusal leaves the message as it came. The call looks at no
+// output and no table, and changes none.
 pub fn handle_one_step(message: &mut [u8], residence: Residence) -> Answer
-    ensures { λ r. ⌜ replied r (now (message .exit)) ≡ oneStepReply (oneStepCall (now (message .entry)) residence) (kindOf (now (message .entry))) ⌝ }
+    ensures { λ r. ⌜
+        ((t : Slots) (o : List ℕ) → doneAlone r (now (message .exit)) o t ≡ callOf t (oneStepCall (now (message .entry)) o residence))
+        ⌝ }
 {
     match kind::classify(message) {
         Handling::Sync(_, _) => update_pad(message, residence),

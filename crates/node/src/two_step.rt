@@ -22,14 +22,14 @@ ghost use Rattle.refusal.specs.Answer.{value};
 ghost use Rattle.residence.specs.declared.Residence.{Residence};
 ghost use Rattle.residence.specs.Residence.{acceptedOf};
 ghost use Rattle.rules.specs.Rules.{createIn, callBy, callOf, sync, followUp};
-ghost use Rattle.node.specs.Answers.{repliedWith, done};
+ghost use Rattle.node.specs.Answers.{replied, done};
 ghost use Rattle.node.specs.Calls.{twoStepCall};
 
 // A Sync with S clear: refusal 12, or S set and the Follow_Up written.
 fn create(message: &mut [u8], output: &mut [u8], residence: Residence, units: u64) -> Answer
     requires { ⌜ 36 ≤ length (now message) ⌝ }
     ensures { λ r. ⌜
-        repliedWith r (now (message .exit)) (now (output .exit))
+        replied r (now (message .exit)) (now (output .exit))
         ≡ createIn (twoStepCall (now (message .entry)) (now (output .entry)) residence) units (ltb (length (now (output .entry))) 36)
         ⌝ }
 {

@@ -33,8 +33,11 @@ pub record StampedCall : Type 0 where
   pub output : List ℕ
 
 -- the same call with its residence
+abbrev pub handedCall : Mode → List ℕ → List ℕ → Stamp → Stamp → Call
+handedCall m s o entry exit = record { mode = m; message = s; residence = stampedResidence entry exit; output = o }
+
 abbrev pub handed : StampedCall → Call
-handed c = record { mode = c .mode; message = c .message; residence = stampedResidence (c .entry) (c .exit); output = c .output }
+handed c = handedCall (c .mode) (c .message) (c .output) (c .entry) (c .exit)
 
 abbrev pub handedEvent : Event StampedCall → Event Call
 handedEvent tick = tick

@@ -5,16 +5,17 @@ use node::Done;
 use stamp::Stamp;
 use table::Table;
 ghost use mathlib.Core.Path.{_≡_};
-ghost use Rattle.rules.specs.Rules.{oneStepReply, kindOf, callOf};
-ghost use Rattle.node.specs.Answers.{replied, done};
-ghost use Rattle.node.specs.Calls.{oneStepCall, twoStepCall};
-ghost use Rattle.rtm.specs.Stamped.{stampedResidence};
+ghost use Prim.Native.Nat.{ℕ};
+ghost use mathlib.Core.List.{List};
+ghost use Rattle.records.specs.Slots.{Slots};
+ghost use Rattle.rules.specs.Rules.{oneStep, twoStep, callOf};
+ghost use Rattle.node.specs.Answers.{doneAlone, done};
+ghost use Rattle.rtm.specs.Stamped.{handedCall};
 
 // A message at a one-step node: updated or passed; refusals 1 to 11, see node::handle_one_step.
 pub fn one_step(message: &mut [u8], entry: Stamp, exit: Stamp) -> Answer
     ensures { λ r. ⌜
-        replied r (now (message .exit))
-        ≡ oneStepReply (oneStepCall (now (message .entry)) (stampedResidence entry exit)) (kindOf (now (message .entry)))
+        ((t : Slots) (o : List ℕ) → doneAlone r (now (message .exit)) o t ≡ callOf t (handedCall oneStep (now (message .entry)) o entry exit))
         ⌝ }
 {
     node::handle_one_step(message, stamp::residence_between(entry, exit))
@@ -31,7 +32,7 @@ pub fn two_step(
 ) -> Done
     ensures { λ r. ⌜
         done r (now (message .exit)) (now (output .exit))
-        ≡ callOf (table .slots) (twoStepCall (now (message .entry)) (now (output .entry)) (stampedResidence entry exit))
+        ≡ callOf (table .slots) (handedCall twoStep (now (message .entry)) (now (output .entry)) entry exit)
         ⌝ }
 {
     node::handle_two_step(

@@ -4,7 +4,7 @@ use mathlib.Core.Path.{ap, _∙_}
 use Rattle.residence.specs.declared.Residence.{Residence}
 use Rattle.stamp.specs.Stamp.{residenceOf}
 use Rattle.rtm.proofs.Runs.{same-residence}
-use Rattle.rules.specs.Rules.{oneStepReply, kindOf}
+use Rattle.rules.specs.Rules.{callOf}
 use Rattle.node.specs.Calls.{oneStepCall}
 use borrow.Author.Needs.{needs}
 use Rattle.rtm.proofs.one_step.Statement.{statement}
@@ -20,10 +20,10 @@ same-length : tie.Need-same-length
 same-length c = search needs
 
 returns : tie.Need-returns
-returns c =
+returns c = λ t o.
     let a = c .before .before .before .before .before .before .args in
     let e = same-residence (c .before .before .before .residence-between .result) (residenceOf (a .entry) (a .exit)) (c .before .before .before .residence-between .ensures) in
-    c .before .before .handle-one-step .ensures ∙ ap (λ (x : Residence). oneStepReply (oneStepCall (a .message .now) x) (kindOf (a .message .now))) e
+    c .before .before .handle-one-step .ensures t o ∙ ap (λ (x : Residence). callOf t (oneStepCall (a .message .now) o x)) e
 
 pub one-step-spec : {M : Type 1} → statement M
 one-step-spec =

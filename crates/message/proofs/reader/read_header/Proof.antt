@@ -21,61 +21,61 @@ returns-2 c =
     let s = c .before .before .before .args .s .now in
     simp (le-ltb (length s) 16 (omega arith), lt-ltb 2048 (length s) (omega arith))
 
+sub-size : tie.Need-sub-size
+sub-size c = search needs
+
 shared-slice-read-first : tie.Need-shared-slice-read-first
 shared-slice-read-first c = search needs
-
-returns-3 : tie.Need-returns-3
-returns-3 c =
-    let s = c .before .before .before .before .before .args .s .now in
-    simp (le-ltb (length s) 16 (omega arith), le-ltb 2048 (length s) (omega arith), ne-eqb (getD s 0 0 / 16) 1 (λ e. omega arith))
 
 read16-requires : tie.Need-read16-requires
 read16-requires c κs = search needs
 
-returns-4 : tie.Need-returns-4
-returns-4 c =
-    let s = c .before .before .before .before .before .before .before .args .s .now in
-    simp (le-ltb (length s) 16 (omega arith), le-ltb 2048 (length s) (omega arith), eq-eqb (getD s 0 0 / 16) 1 (omega arith), ne-eqb (number 2 s 2) 15 (λ e. omega arith))
-
-returns-5 : tie.Need-returns-5
-returns-5 c =
-    let s = c .before .before .before .before .before .before .before .before .args .s .now in
-    simp (le-ltb (length s) 16 (omega arith), le-ltb 2048 (length s) (omega arith), eq-eqb (getD s 0 0 / 16) 1 (omega arith), eq-eqb (number 2 s 2) 15 (omega arith), ne-eqb (getD s 0 0 % 16) 0 (λ e. omega arith))
-
 read16-requires-2 : tie.Need-read16-requires-2
 read16-requires-2 c κs = search needs
 
-cast-if6 : tie.Need-cast-if6
-cast-if6 c = search needs
-
-sub-if6 : tie.Need-sub-if6
-sub-if6 c = search needs
-
-returns-6 : tie.Need-returns-6
-returns-6 c =
-    let s = c .before .before .before .before .before .before .before .before .before .before .args .s .now in
-    simp (le-ltb (length s) 16 (omega arith), le-ltb 2048 (length s) (omega arith), eq-eqb (getD s 0 0 / 16) 1 (omega arith), eq-eqb (number 2 s 2) 15 (omega arith), eq-eqb (getD s 0 0 % 16) 0 (omega arith), ne-eqb (number 2 s 14) (length s - 16) (λ e. omega arith))
+cast-length : tie.Need-cast-length
+cast-length c = search needs
 
 read16-requires-3 : tie.Need-read16-requires-3
 read16-requires-3 c κs = search needs
 
+read-signed-requires : tie.Need-read-signed-requires
+read-signed-requires c κs = search needs
+
+returns-3 : tie.Need-returns-3
+returns-3 c =
+    let s = c .before .before .before .before .before .before .before .before .before .args .s .now in
+    simp (le-ltb (length s) 16 (omega arith), le-ltb 2048 (length s) (omega arith), ne-eqb (getD s 0 0 / 16) 1 (λ e. omega arith))
+
+returns-4 : tie.Need-returns-4
+returns-4 c =
+    let s = c .before .before .before .before .before .before .before .before .before .before .args .s .now in
+    simp (le-ltb (length s) 16 (omega arith), le-ltb 2048 (length s) (omega arith), eq-eqb (getD s 0 0 / 16) 1 (omega arith), ne-eqb (number 2 s 2) 15 (λ e. omega arith))
+
+returns-5 : tie.Need-returns-5
+returns-5 c =
+    let s = c .before .before .before .before .before .before .before .before .before .before .before .args .s .now in
+    simp (le-ltb (length s) 16 (omega arith), le-ltb 2048 (length s) (omega arith), eq-eqb (getD s 0 0 / 16) 1 (omega arith), eq-eqb (number 2 s 2) 15 (omega arith), ne-eqb (getD s 0 0 % 16) 0 (λ e. omega arith))
+
+returns-6 : tie.Need-returns-6
+returns-6 c =
+    let s = c .before .before .before .before .before .before .before .before .before .before .before .before .args .s .now in
+    simp (le-ltb (length s) 16 (omega arith), le-ltb 2048 (length s) (omega arith), eq-eqb (getD s 0 0 / 16) 1 (omega arith), eq-eqb (number 2 s 2) 15 (omega arith), eq-eqb (getD s 0 0 % 16) 0 (omega arith), ne-eqb (number 2 s 14) (length s - 16) (λ e. omega arith))
+
 returns-7 : tie.Need-returns-7
 returns-7 c =
-    let s = c .before .before .before .before .before .before .before .before .before .before .before .before .args .s .now in
+    let s = c .before .before .before .before .before .before .before .before .before .before .before .before .before .args .s .now in
     simp (le-ltb (length s) 16 (omega arith), le-ltb 2048 (length s) (omega arith), eq-eqb (getD s 0 0 / 16) 1 (omega arith), eq-eqb (number 2 s 2) 15 (omega arith), eq-eqb (getD s 0 0 % 16) 0 (omega arith), eq-eqb (number 2 s 14) (length s - 16) (omega arith), lt-leb 1 (number 2 s 12) (omega arith))
 
 returns-8 : tie.Need-returns-8
 returns-8 c =
-    let s = c .before .before .before .before .before .before .before .before .before .before .before .before .before .args .s .now in
+    let s = c .before .before .before .before .before .before .before .before .before .before .before .before .before .before .args .s .now in
     simp (le-ltb (length s) 16 (omega arith), le-ltb 2048 (length s) (omega arith), eq-eqb (getD s 0 0 / 16) 1 (omega arith), eq-eqb (number 2 s 2) 15 (omega arith), eq-eqb (getD s 0 0 % 16) 0 (omega arith), eq-eqb (number 2 s 14) (length s - 16) (omega arith), le-leb 1 (number 2 s 12) (omega arith), lt-leb (number 2 s 12) 5 (omega arith))
-
-read-signed-requires : tie.Need-read-signed-requires
-read-signed-requires c κs = search needs
 
 returns-9 : tie.Need-returns-9
 returns-9 c =
     let s = c .before .before .before .before .before .before .before .before .before .before .before .before .before .before .args .s .now in
-    let p = toZ-ofZ w64 (c .read-signed .result) (record { sfits = c .read-signed .ok }) in
+    let p = toZ-ofZ w64 (c .before .before .before .before .before .before .read-signed .result) (record { sfits = c .before .before .before .before .before .before .read-signed .ok }) in
     simp (le-ltb (length s) 16 (omega arith), le-ltb 2048 (length s) (omega arith), eq-eqb (getD s 0 0 / 16) 1 (omega arith), eq-eqb (number 2 s 2) 15 (omega arith), eq-eqb (getD s 0 0 % 16) 0 (omega arith), eq-eqb (number 2 s 14) (length s - 16) (omega arith), le-leb 1 (number 2 s 12) (omega arith), le-leb (number 2 s 12) 5 (omega arith)) cc
 
 pub read-header-spec : {M : Type 1} → statement M
@@ -84,17 +84,17 @@ read-header-spec =
     (tie.spec
     returns
     returns-2
+    sub-size
     shared-slice-read-first
-    returns-3
     read16-requires
+    read16-requires-2
+    cast-length
+    read16-requires-3
+    read-signed-requires
+    returns-3
     returns-4
     returns-5
-    read16-requires-2
-    cast-if6
-    sub-if6
     returns-6
-    read16-requires-3
     returns-7
     returns-8
-    read-signed-requires
     returns-9)

@@ -1,7 +1,6 @@
 -- `update_pad` meets its contract: the residence decides, then the sum.
 -- Assumes nothing.
 use mathlib.Core.Path.{sym, ap, _∙_}
-use mathlib.Core.List.{[]}
 use Rattle.refusal.specs.Answer.{value, andThen}
 use Rattle.scratch_pad.specs.Sum.{sumAnswer}
 use Rattle.rules.specs.Rules.{updated, update}
@@ -33,26 +32,26 @@ same-length : tie.Need-same-length
 same-length c = search needs
 
 returns : tie.Need-returns
-returns c =
+returns c = λ o.
     let a = c .before .before .before .before .before .before .before .before .before .before .before .args in
     let e = ap sumAnswer (sym (c .enum-told .given .1)) ∙ c .before .before .before .before .add-to-pad .ensures .0 in
-    (λ i. record { answer = andThen (e i) (λ z. value updated); message = c .before .before .before .before .add-to-pad .ensures .1 i; output = [] })
-    ∙ ap (update (oneStepCall (a .message .now) (a .residence))) (ap unitsAnswer (sym (c .before .before .before .before .before .before .before .units .given .1)) ∙ c .before .before .before .before .before .before .before .before .before .accept .ensures)
+    (λ i. record { answer = andThen (e i) (λ z. value updated); message = c .before .before .before .before .add-to-pad .ensures .1 i; output = o })
+    ∙ ap (update (oneStepCall (a .message .now) o (a .residence))) (ap unitsAnswer (sym (c .before .before .before .before .before .before .before .units .given .1)) ∙ c .before .before .before .before .before .before .before .before .before .accept .ensures)
 
 same-length-2 : tie.Need-same-length-2
 same-length-2 c = search needs
 
 returns-2 : tie.Need-returns-2
-returns-2 c =
+returns-2 c = λ o.
     let a = c .before .before .before .before .before .before .before .before .before .before .before .before .args in
     let e = ap sumAnswer (sym (c .before .n .given .1)) ∙ c .before .before .before .before .before .add-to-pad .ensures .0 in
-    (λ i. record { answer = andThen (e i) (λ z. value updated); message = c .before .before .before .before .before .add-to-pad .ensures .1 i; output = [] })
-    ∙ ap (update (oneStepCall (a .message .now) (a .residence))) (ap unitsAnswer (sym (c .before .before .before .before .before .before .before .before .units .given .1)) ∙ c .before .before .before .before .before .before .before .before .before .before .accept .ensures)
+    (λ i. record { answer = andThen (e i) (λ z. value updated); message = c .before .before .before .before .before .add-to-pad .ensures .1 i; output = o })
+    ∙ ap (update (oneStepCall (a .message .now) o (a .residence))) (ap unitsAnswer (sym (c .before .before .before .before .before .before .before .before .units .given .1)) ∙ c .before .before .before .before .before .before .before .before .before .before .accept .ensures)
 
 returns-3 : tie.Need-returns-3
-returns-3 c =
+returns-3 c = λ o.
     let a = c .before .before .before .before .before .args in
-    ap (update (oneStepCall (a .message .now) (a .residence))) (ap unitsAnswer (sym (c .before .n2 .given .1)) ∙ c .before .before .before .accept .ensures)
+    ap (update (oneStepCall (a .message .now) o (a .residence))) (ap unitsAnswer (sym (c .before .n2 .given .1)) ∙ c .before .before .before .accept .ensures)
 
 pub update-pad-spec : {M : Type 1} → statement M
 update-pad-spec =
