@@ -3,6 +3,7 @@
 use message::Header;
 use message::Reading;
 use message::SubTlv;
+use message::types;
 use scratch_pad::Sum;
 ghost use mathlib.Core.Path.{_≡_};
 ghost use Rattle.message.specs.Answers.{readAnswer};
@@ -36,13 +37,13 @@ fn same_exchange(h: Header, t: SubTlv, g: Header, u: SubTlv) -> bool
 fn are_pair(h: Header, t: SubTlv, g: Header, u: SubTlv) -> bool
     ensures { λ r. ⌜ r ≡ isPair (ptp h t) (ptp g u) ⌝ }
 {
-    if t.ptp_type != 0 {
+    if t.ptp_type != types::SYNC {
         return false;
     }
     if !t.two_step {
         return false;
     }
-    if u.ptp_type != 8 {
+    if u.ptp_type != types::FOLLOW_UP {
         return false;
     }
     same_exchange(h, t, g, u)

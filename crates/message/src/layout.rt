@@ -5,6 +5,8 @@ pub const G_ACH_HEADER: [u8; 4] = *b"\x10\x00\x00\x0F";
 
 pub const CHANNEL_TYPE: usize = 2;
 
+pub const RTM_CHANNEL: u16 = 0x000F;
+
 pub const SCRATCH_PAD: usize = 4;
 
 pub const TYPE: usize = 12;
@@ -20,6 +22,10 @@ pub const SUB_TLV_LENGTH: usize = 2;
 // Octets 0 to 3 of the sub-TLV: type 1, and its length as RFC 8169 gives it, 20.
 pub const SUB_TLV_HEADER: [u8; 4] = *b"\x00\x01\x00\x14";
 
+pub const PTP_SUB_TLV: u16 = 1;
+
+pub const PTP_SUB_TLV_LENGTH: u16 = 20;
+
 pub const FLAGS: usize = 4;
 
 pub const PTP_TYPE: usize = 7;
@@ -33,7 +39,7 @@ pub const SEQUENCE_ID: usize = 18;
 pub const SUB_TLV_SIZE: usize = 20;
 
 // The carried packet of types 2 to 4, counted from the message's first octet.
-pub const CARRIED: usize = 36;
+pub const CARRIED: usize = VALUE + SUB_TLV_SIZE;
 
 // The largest message.
 pub const LARGEST: usize = 2048;

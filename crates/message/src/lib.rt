@@ -3,6 +3,7 @@
 mod fields;
 pub mod layout;
 mod reader;
+pub mod types;
 mod writer;
 
 pub use fields::Fields;

@@ -2,6 +2,7 @@
 use crate::fields::Header;
 use crate::fields::SubTlv;
 use crate::layout;
+use crate::types;
 ghost use mathlib.Core.Path.{_≡_};
 ghost use lib.ListN.{drop};
 ghost use Rattle.message.specs.Read.{headerOf, subTlvOf, readOf, carriedOf};
@@ -45,7 +46,7 @@ fn read_header(s: &[u8]) -> HeaderReading
     if first / 16 != 1 {
         return HeaderReading::Refused(refusal::NOT_RTM);
     }
-    if channel_type != 0x000F {
+    if channel_type != layout::RTM_CHANNEL {
         return HeaderReading::Refused(refusal::NOT_RTM);
     }
     if first % 16 != 0 {
@@ -54,10 +55,10 @@ fn read_header(s: &[u8]) -> HeaderReading
     if length != size {
         return HeaderReading::Refused(refusal::LENGTH);
     }
-    if message_type < 1 {
+    if message_type < types::NO_PAYLOAD {
         return HeaderReading::Refused(refusal::TYPE);
     }
-    if 5 < message_type {
+    if types::NTP < message_type {
         return HeaderReading::Refused(refusal::TYPE);
     }
     HeaderReading::Sound(Header { message_type, pad })
@@ -70,10 +71,10 @@ fn read_sub_tlv(value: &[u8]) -> SubTlvReading
     if value.len() < layout::SUB_TLV_SIZE {
         return SubTlvReading::Refused(refusal::VALUE_SIZE);
     }
-    if octets::read16(value, layout::SUB_TLV_TYPE) != 1 {
+    if octets::read16(value, layout::SUB_TLV_TYPE) != layout::PTP_SUB_TLV {
         return SubTlvReading::Refused(refusal::SUB_TLV);
     }
-    if octets::read16(value, layout::SUB_TLV_LENGTH) != 20 {
+    if octets::read16(value, layout::SUB_TLV_LENGTH) != layout::PTP_SUB_TLV_LENGTH {
         return SubTlvReading::Refused(refusal::SUB_TLV);
     }
     let flags = value[layout::FLAGS];
@@ -99,13 +100,13 @@ pub fn read(s: &[u8]) -> Reading
         HeaderReading::Refused(n) => return Reading::Refused(n),
     };
     let message_type = header.message_type;
-    if message_type == 1 {
+    if message_type == types::NO_PAYLOAD {
         if layout::VALUE < s.len() {
             return Reading::Refused(refusal::VALUE_SIZE);
         }
         return Reading::Plain(header);
     }
-    if message_type == 5 {
+    if message_type == types::NTP {
         return Reading::Plain(header);
     }
     match read_sub_tlv(after(s, layout::VALUE)) {

@@ -3,6 +3,7 @@ use crate::fields::Fields;
 use crate::fields::Header;
 use crate::fields::SubTlv;
 use crate::layout;
+use crate::types;
 ghost use mathlib.Core.Path.{_≡_};
 ghost use Prim.Native.Nat.{_+_, _≤_};
 ghost use mathlib.Core.List.{_++_};
@@ -20,10 +21,10 @@ pub enum Written {
 fn is_ptp(message_type: u16) -> bool
     ensures { λ r. ⌜ r ≡ isPtp «message_type» ⌝ }
 {
-    if message_type < 2 {
+    if message_type < types::PTP_ETHERNET {
         return false;
     }
-    message_type <= 4
+    message_type <= types::PTP_IPV6
 }
 
 // The size of a message whose carried packet starts at `start`: refusals 2 and 12.
@@ -44,19 +45,19 @@ fn fit(start: usize, carried: usize, room: usize) -> Written
 fn size(message_type: u16, ptp_type: u8, carried: usize, room: usize) -> Written
     ensures { λ r. ⌜ writtenAnswer r ≡ sizeOf «message_type» «ptp_type» carried room ⌝ }
 {
-    if message_type < 1 {
+    if message_type < types::NO_PAYLOAD {
         return Written::Refused(refusal::TYPE);
     }
-    if 5 < message_type {
+    if types::NTP < message_type {
         return Written::Refused(refusal::TYPE);
     }
     if is_ptp(message_type) {
-        if 15 < ptp_type {
+        if types::LAST_PTP_TYPE < ptp_type {
             return Written::Refused(refusal::PTP_TYPE);
         }
         return fit(layout::CARRIED, carried, room);
     }
-    if message_type == 1 {
+    if message_type == types::NO_PAYLOAD {
         if 0 < carried {
             return Written::Refused(refusal::VALUE_SIZE);
         }

@@ -11,12 +11,10 @@ ghost use Rattle.rules.specs.Change.{padOf, withTwoStep, followUpOf};
 ghost use Rattle.rules.specs.Rules.{padBy};
 
 // Octet 20, with the S bit.
-const FLAGS: usize = 20;
+const FLAGS: usize = layout::VALUE + layout::FLAGS;
 
 // Octets 24 to 35, port identity and sequence.
-const IDENTITY: usize = 24;
-
-const FOLLOW_UP_SIZE: usize = 36;
+const IDENTITY: usize = layout::VALUE + layout::CLOCK_IDENTITY;
 
 // Octets 14 to 23 of a created Follow_Up: Length 20, sub-TLV type 1 and length 20, S set, PTPType 8.
 const FOLLOW_UP_FIELDS: [u8; 10] = *b"\x00\x14\x00\x01\x00\x14\x80\x00\x00\x08";
@@ -56,5 +54,5 @@ pub(crate) fn create_follow_up(output: &mut [u8], sync: &[u8], units: u64)
     octets::put(output, layout::SCRATCH_PAD, &pad);
     octets::put(output, layout::TYPE, &sync[layout::TYPE..layout::LENGTH]);
     octets::put(output, layout::LENGTH, &FOLLOW_UP_FIELDS);
-    octets::put(output, IDENTITY, &sync[IDENTITY..FOLLOW_UP_SIZE]);
+    octets::put(output, IDENTITY, &sync[IDENTITY..layout::CARRIED]);
 }

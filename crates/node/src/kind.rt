@@ -1,16 +1,11 @@
 // What a node makes of a message as read.
 use message::Reading;
 use message::SubTlv;
+use message::types;
 use records::Identity;
 ghost use mathlib.Core.Path.{_≡_};
 ghost use Rattle.rules.specs.Rules.{ptpKind, kindOf};
 ghost use Rattle.node.specs.Answers.{kindAnswer};
-
-const SYNC: u8 = 0;
-
-const PDELAY_RESP: u8 = 3;
-
-const FOLLOW_UP: u8 = 8;
 
 pub enum Handling {
     // A Sync, and its S bit.
@@ -32,13 +27,13 @@ fn of_ptp(sub_tlv: SubTlv) -> Handling
         sequence: sub_tlv.sequence,
     };
     let ptp_type = sub_tlv.ptp_type;
-    if ptp_type == SYNC {
+    if ptp_type == types::SYNC {
         return Handling::Sync(identity, sub_tlv.two_step);
     }
-    if ptp_type <= PDELAY_RESP {
+    if ptp_type <= types::PDELAY_RESP {
         return Handling::Timed;
     }
-    if ptp_type == FOLLOW_UP {
+    if ptp_type == types::FOLLOW_UP {
         return Handling::FollowUp(identity);
     }
     Handling::Untimed

@@ -6,6 +6,7 @@ use crate::answer::Done;
 use crate::change;
 use crate::kind;
 use crate::kind::Handling;
+use message::layout;
 use records::Identity;
 use residence::Residence;
 use scratch_pad::Sum;
@@ -33,7 +34,7 @@ fn create(message: &mut [u8], output: &mut [u8], residence: Residence, units: u6
         ≡ createIn (twoStepCall (now (message .entry)) (now (output .entry)) residence) units (ltb (length (now (output .entry))) 36)
         ⌝ }
 {
-    if output.len() < 36 {
+    if output.len() < layout::CARRIED {
         return Answer::Refused(refusal::OUTPUT_TOO_SMALL);
     }
     change::create_follow_up(output, message, units);
