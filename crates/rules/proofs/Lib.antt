@@ -4,3 +4,5 @@ pub mod Calls
 pub mod Laws
 pub mod Crossing
 pub mod PathSums
+pub mod Samples
+pub mod PathExample
