@@ -6,3 +6,4 @@ pub mod Crossing
 pub mod PathSums
 pub mod Samples
 pub mod PathExample
+pub mod OrderExample
