@@ -60,7 +60,12 @@ answers rs = map answered rs
 abbrev pub after : Word → List ℕ → List ℕ → Reply
 after w message output = record { answer = value w; message = message; output = output }
 
-pub visit : (n : Stop) (k : ℕ) (c : Call) (w : Word) (m out : List ℕ) → getElem? (n .events) k ≡ some (call c) → c .mode ≡ n .mode → ReplyAt n k (after w m out) → Visit n k (c .message) (after w m out)
+pub visit :
+    (n : Stop) (k : ℕ) (c : Call) (w : Word) (m out : List ℕ)
+    → getElem? (n .events) k ≡ some (call c)
+    → c .mode ≡ n .mode
+    → ReplyAt n k (after w m out)
+    → Visit n k (c .message) (after w m out)
 visit n k c w m out here mode outcome =
     record { handed = c; here = here; mode = mode; octets = refl; outcome = outcome; unrefused = λ a e. not-both (sym e) }
 
