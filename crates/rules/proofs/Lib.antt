@@ -4,3 +4,6 @@ pub mod Calls
 pub mod Laws
 pub mod Crossing
 pub mod PathSums
+pub mod Samples
+pub mod PathExample
+pub mod OrderExample

@@ -1,0 +1,206 @@
+-- The first half of demand 3 can be met: document 01's path of 1,500, 200 and 50 ns, with other calls, refused ones too, ticks,
+-- rubbish and doubled records at its nodes.
+-- Assumes nothing.
+use Prim.Native.Nat.{ℕ, _*_}
+use mathlib.Core.Path.{_≡_, refl, sym, ap, _∙_}
+use mathlib.Core.Bool.{Bool, true, false, true≢false}
+use mathlib.Core.List.{List, [], _∷_, _++_, List·Permᴰ·nil, List·Permᴰ·cons}
+use mathlib.Core.Logic.{_⊎_, inl, inr}
+use mathlib.Core.Option.{Option, none, some}
+use lib.IntN.{pos, _+ℤ_}
+use lib.ListN.{drop, replicate}
+use Rattle.refusal.specs.Answer.{Answer, value, refused}
+use Rattle.residence.specs.declared.Residence.the-variants.{InvalidStamp}
+use Rattle.records.specs.declared.Identity.{Identity}
+use Rattle.records.specs.Slots.{Slots, same, holds, zeros, find}
+use Rattle.records.specs.Node.{Event, tick, call, Result, told, replied, run}
+use Rattle.rules.specs.Change.{padOf}
+use Rattle.rules.specs.Rules.{kindOf, kindIdentity, oneStep, twoStep, Call, Word, updated, passed, created, waiting, added, rules}
+use Rattle.rules.specs.Path.{Stop, Apart, Every, SyncWay, FollowUpWay, FollowUps, born, residences}
+use Rattle.rules.proofs.PathSums.{path-sum}
+use Rattle.rules.proofs.Samples.{numbered, octetsOf, stayed, spare, handedIn, recordOf, answers, after, visit, Each, each}
+
+-- the Sync's identity, and two others
+abbrev mine : Identity
+mine = numbered 258
+
+abbrev theirs : Identity
+theirs = numbered 259
+
+abbrev another : Identity
+another = numbered 260
+
+-- the Sync by its S and pad, and the Follow_Up by its pad
+abbrev aSync : Bool → ℕ → List ℕ
+aSync s pad = octetsOf mine s 0 (pos pad)
+
+abbrev aFollowUp : ℕ → List ℕ
+aFollowUp pad = octetsOf mine true 8 (pos pad)
+
+-- messages with that very port and sequence that have no identity: of PTPTypes 1 and 4, and a Sync of Version 1
+abbrev ofType : ℕ → List ℕ
+ofType k = octetsOf mine false k (pos 5)
+
+abbrev ofVersionOne : List ℕ
+ofVersionOne = 0x11 ∷ drop 1 (aSync true 0)
+
+-- every node's table: rubbish with the Sync's identity in an empty slot, two records of one other identity, a wait of 255
+abbrev slots : Slots
+slots = recordOf mine 0 ∷ recordOf theirs 1 ∷ recordOf theirs 255 ∷ replicate 13 zeros
+
+-- the calls on the two
+abbrev syncFirst : Call
+syncFirst = handedIn oneStep (aSync false 0) (stayed 1500)
+
+abbrev syncSecond : Call
+syncSecond = handedIn twoStep (aSync false 98304000) (stayed 200)
+
+abbrev syncThird : Call
+syncThird = handedIn twoStep (aSync true 98304000) (stayed 50)
+
+abbrev followUpThird : Call
+followUpThird = handedIn twoStep (aFollowUp 13107200) InvalidStamp
+
+abbrev first : Stop
+first =
+    record {
+      mode = oneStep;
+      table = slots;
+      events =
+          call (handedIn twoStep (octetsOf theirs true 0 (pos 0)) (stayed 9))
+          ∷ tick
+          ∷ call (handedIn oneStep ofVersionOne (stayed 9))
+          ∷ call syncFirst
+          ∷ call (handedIn oneStep (ofType 1) (stayed 9))
+          ∷ tick
+          ∷ [];
+      syncPlace = 3;
+      followUpPlace = none;
+    }
+
+abbrev second : Stop
+second =
+    record {
+      mode = twoStep;
+      table = slots;
+      events =
+          call (handedIn twoStep (ofType 1) (stayed 9))
+          ∷ call (handedIn twoStep (octetsOf another true 0 (pos 0)) InvalidStamp)
+          ∷ call syncSecond
+          ∷ call (handedIn twoStep (octetsOf theirs true 8 (pos 0)) (stayed 9))
+          ∷ tick
+          ∷ call (handedIn oneStep (octetsOf theirs true 8 (pos 0)) (stayed 9))
+          ∷ [];
+      syncPlace = 2;
+      followUpPlace = none;
+    }
+
+abbrev third : Stop
+third =
+    record {
+      mode = twoStep;
+      table = slots;
+      events =
+          tick
+          ∷ call (handedIn twoStep ofVersionOne (stayed 9))
+          ∷ call (handedIn twoStep (ofType 4) InvalidStamp)
+          ∷ call syncThird
+          ∷ tick
+          ∷ call (handedIn twoStep (octetsOf another true 8 (pos 0)) (stayed 9))
+          ∷ tick
+          ∷ call followUpThird
+          ∷ call (handedIn oneStep (octetsOf theirs true 0 (pos 0)) (stayed 9))
+          ∷ tick
+          ∷ [];
+      syncPlace = 3;
+      followUpPlace = some 7;
+    }
+
+abbrev path : List Stop
+path = first ∷ second ∷ third ∷ []
+
+-- what each node tells and answers
+abbrev at : Stop → List (Result (Answer Word))
+at n = answers (run rules (n .table) (n .events))
+
+at-first : at first ≡ replied (refused 13) ∷ told 1 ∷ replied (refused 4) ∷ replied (value updated) ∷ replied (value updated) ∷ told 0 ∷ []
+unfolding same holds
+at-first = refl
+
+at-second : at second ≡ replied (refused 16) ∷ replied (refused 9) ∷ replied (value created) ∷ replied (value added) ∷ told 0 ∷ replied (value passed) ∷ []
+unfolding same holds
+at-second = refl
+
+at-third :
+    at third
+    ≡ told 1 ∷ replied (refused 4) ∷ replied (value passed) ∷ replied (value waiting) ∷ told 0 ∷ replied (refused 15) ∷ told 0
+    ∷ replied (value added) ∷ replied (value updated) ∷ told 0 ∷ []
+unfolding same holds
+at-third = refl
+
+-- the octets are document 01's
+octets :
+    aSync false 0
+    ≡ 0x10 ∷ 0x00 ∷ 0x00 ∷ 0x0F ∷ 0 ∷ 0 ∷ 0 ∷ 0 ∷ 0 ∷ 0 ∷ 0 ∷ 0 ∷ 0x00 ∷ 0x03 ∷ 0x00 ∷ 0x14 ∷ 0x00 ∷ 0x01 ∷ 0x00 ∷ 0x14 ∷ 0 ∷ 0 ∷ 0 ∷ 0
+    ∷ 0x00 ∷ 0x01 ∷ 0x02 ∷ 0x03 ∷ 0x04 ∷ 0x05 ∷ 0x06 ∷ 0x07 ∷ 0x00 ∷ 0x01 ∷ 0x01 ∷ 0x02 ∷ []
+octets = refl
+
+-- the output that the second node leaves
+abbrev left : List ℕ
+left = aFollowUp 13107200 ++ replicate 4 0
+
+sync-way : SyncWay (aSync false 0) path (aSync true 98304000)
+unfolding same holds
+sync-way =
+    SyncWay.cross (visit first 3 syncFirst updated (aSync false 98304000) spare refl refl refl)
+    (SyncWay.cross (visit second 2 syncSecond created (aSync true 98304000) left refl refl refl)
+    (SyncWay.cross (visit third 3 syncThird waiting (aSync true 98304000) spare refl refl refl) SyncWay.done))
+
+follow-up-way : FollowUpWay (aFollowUp 13107200) (third ∷ []) (aFollowUp 16384000)
+unfolding same holds
+follow-up-way = FollowUpWay.cross 7 refl (visit third 7 followUpThird added (aFollowUp 16384000) spare refl refl refl) FollowUpWay.done
+
+follow-ups : FollowUps mine false path (pos 0) (padOf (aFollowUp 16384000))
+unfolding same holds
+follow-ups =
+    born (first ∷ []) second {r = after created (aSync true 98304000) left} {last = aFollowUp 16384000} refl refl
+    (List·Permᴰ·cons refl List·Permᴰ·nil) follow-up-way
+
+-- a call with the Sync's identity stands at the node's two places alone
+abbrev isMine : Option Identity → Bool
+isMine none = false
+isMine (some p) = same p mine
+
+other : {A : Type 0} {o : Option Identity} → isMine o ≡ false → o ≡ some mine → A
+unfolding same
+other f e = absurd (true≢false (sym (ap isMine e) ∙ f))
+
+abbrev Placed : Stop → ℕ → Event Call → Type 0
+Placed n k tick = Unit {0}
+Placed n k (call c) = kindIdentity (kindOf (c .message)) ≡ some mine → (k ≡ n .syncPlace) ⊎ (some k ≡ n .followUpPlace)
+
+apart : (n : Stop) → find mine (n .table) ≡ none → Each (Placed n) (n .events) → Apart mine n
+apart n free h = record { free = free; others = λ k c. each (Placed n) (n .events) h k (call c) }
+
+all-apart : Every (Apart mine) path
+unfolding same holds
+all-apart = (
+  apart first refl (other refl, (tt, (other refl, (λ e. inl refl, (other refl, (tt, tt)))))),
+  (
+    apart second refl (other refl, (other refl, (λ e. inl refl, (other refl, (tt, (other refl, tt)))))),
+    (apart third refl (tt, (other refl, (other refl, (λ e. inl refl, (tt, (other refl, (tt, (λ e. inr refl, (other refl, (tt, tt)))))))))), tt),
+  ),
+)
+
+-- the theorem's equation for this path, and its numbers: 98,304,000 + 16,384,000 = 0 + 0 + 114,688,000
+sum : padOf (aSync true 98304000) +ℤ padOf (aFollowUp 16384000) ≡ padOf (aSync false 0) +ℤ pos 0 +ℤ pos (residences path)
+sum = path-sum mine false (aSync false 0) (aSync true 98304000) path (pos 0) (padOf (aFollowUp 16384000)) refl all-apart sync-way follow-ups
+
+pads : (padOf (aSync true 98304000) ≡ pos 98304000) × (padOf (aFollowUp 16384000) ≡ pos 16384000) × (padOf (aSync false 0) ≡ pos 0)
+pads = (refl, refl, refl)
+
+stays : (residences path ≡ 1750 * 65536) × (residences path ≡ 114688000)
+stays = (refl, refl)
+
+in-numbers : pos 98304000 +ℤ pos 16384000 ≡ pos 0 +ℤ pos 0 +ℤ pos 114688000
+in-numbers = sum

@@ -1,0 +1,80 @@
+-- For the worked examples of demand 3: messages of type 3, calls on them, the answers of a run, and every place of a list in turn.
+-- Assumes nothing.
+use Prim.Native.Nat.{ℕ, zero, suc, _*_}
+use mathlib.Core.Path.{_≡_, refl, sym, subst}
+use mathlib.Core.Bool.{Bool}
+use mathlib.Core.List.{List, [], _∷_, map}
+use mathlib.Core.Option.{some}
+use native.Mathlib.Omega.{arith}
+use lib.IntN.{ℤ}
+use lib.ListN.{getElem?, replicate}
+use Rattle.refusal.specs.Answer.{Answer, value}
+use Rattle.refusal.proofs.Answers.{not-both}
+use Rattle.residence.specs.declared.Residence.{Residence}
+use Rattle.residence.specs.declared.Residence.the-variants.{Units}
+use Rattle.message.specs.Write.{ptpOctets}
+use Rattle.records.specs.declared.Identity.{Identity}
+use Rattle.records.specs.declared.Record.{Record}
+use Rattle.records.specs.Node.{call, Result, told, replied}
+use Rattle.rules.specs.Rules.{Mode, Call, Word, Reply}
+use Rattle.rules.specs.Path.{Stop, ReplyAt, Visit}
+
+-- the identity of document 01's cases, and others of its port: port 00 01 02 03 04 05 06 07 00 01
+abbrev pub numbered : ℕ → Identity
+numbered n = record { clock = 0x0001020304050607; port = 1; sequence = n }
+
+-- the octets of a message with this identity, by S, PTPType and pad
+abbrev pub octetsOf : Identity → Bool → ℕ → ℤ → List ℕ
+octetsOf q s k pad =
+    ptpOctets
+    (record {
+      header = record { «message_type» = 3; pad = pad };
+      «sub_tlv» = record { «two_step» = s; «ptp_type» = k; clock = q .clock; port = q .port; sequence = q .sequence };
+    })
+    []
+
+-- the residence of so many nanoseconds
+abbrev pub stayed : ℕ → Residence
+stayed n = Units (n * 65536)
+
+-- a call with an output of 40 zeros
+abbrev pub spare : List ℕ
+spare = replicate 40 0
+
+abbrev pub handedIn : Mode → List ℕ → Residence → Call
+handedIn m s r = record { mode = m; message = s; residence = r; output = spare }
+
+-- a record of an identity, with a residence of 7 units
+abbrev pub recordOf : Identity → ℕ → Record
+recordOf q w = record { clock = q .clock; port = q .port; sequence = q .sequence; residence = 7; wait = w }
+
+-- what a run tells and answers, octets aside
+abbrev answered : Result Reply → Result (Answer Word)
+answered (told n) = told n
+answered (replied r) = replied (r .answer)
+
+abbrev pub answers : List (Result Reply) → List (Result (Answer Word))
+answers rs = map answered rs
+
+-- a call that is not refused, from what computing shows
+abbrev pub after : Word → List ℕ → List ℕ → Reply
+after w message output = record { answer = value w; message = message; output = output }
+
+pub visit :
+    (n : Stop) (k : ℕ) (c : Call) (w : Word) (m out : List ℕ)
+    → getElem? (n .events) k ≡ some (call c)
+    → c .mode ≡ n .mode
+    → ReplyAt n k (after w m out)
+    → Visit n k (c .message) (after w m out)
+visit n k c w m out here mode outcome =
+    record { handed = c; here = here; mode = mode; octets = refl; outcome = outcome; unrefused = λ a e. not-both (sym e) }
+
+-- what holds of each element of a list and its place
+abbrev pub Each : {A : Type 0} → (ℕ → A → Type 0) → List A → Type 0
+Each P [] = Unit {0}
+Each P (x ∷ xs) = P 0 x × Each (λ k. P (suc k)) xs
+
+pub each : {A : Type 0} (P : ℕ → A → Type 0) (xs : List A) → Each P xs → (k : ℕ) (x : A) → getElem? xs k ≡ some x → P k x
+each P [] h k x e = absurd (let z : _≡_ {A = ℕ} 0 1 = cc in omega arith)
+each P (y ∷ ys) h zero x e = let f : y ≡ x = cc in subst (P 0) f (h .0)
+each P (y ∷ ys) h (suc k) x e = each (λ k. P (suc k)) ys (h .1) k x e
