@@ -1,22 +1,25 @@
 -- The first half of demand 3 can be met: document 01's path of 1,500, 200 and 50 ns, with other calls, refused ones too, ticks,
 -- rubbish and doubled records at its nodes.
 -- Assumes nothing.
-use Prim.Native.Nat.{ℕ, _*_}
+use Prim.Native.Nat.{ℕ, _*_, _<_}
 use mathlib.Core.Path.{_≡_, refl, sym, ap, _∙_}
 use mathlib.Core.Bool.{Bool, true, false, true≢false}
 use mathlib.Core.List.{List, [], _∷_, _++_, List·Permᴰ·nil, List·Permᴰ·cons}
 use mathlib.Core.Logic.{_⊎_, inl, inr}
 use mathlib.Core.Option.{Option, none, some}
+use native.Mathlib.Omega.{arith}
 use lib.IntN.{pos, _+ℤ_}
-use lib.ListN.{drop, replicate}
+use lib.ListN.{drop, replicate, getElem?}
 use Rattle.refusal.specs.Answer.{Answer, value, refused}
 use Rattle.residence.specs.declared.Residence.the-variants.{InvalidStamp}
 use Rattle.records.specs.declared.Identity.{Identity}
 use Rattle.records.specs.Slots.{Slots, same, holds, zeros, find}
 use Rattle.records.specs.Node.{Event, tick, call, Result, told, replied, run}
 use Rattle.rules.specs.Change.{padOf}
-use Rattle.rules.specs.Rules.{kindOf, kindIdentity, oneStep, twoStep, Call, Word, updated, passed, created, waiting, added, rules}
+use Rattle.rules.specs.Rules.{kindOf, kindIdentity, oneStep, twoStep, Call, Word, addToPad, updated, passed, created, waiting, added, rules}
 use Rattle.rules.specs.Path.{Stop, Apart, Every, SyncWay, FollowUpWay, FollowUps, born, residences}
+use Rattle.rules.specs.Demand3.{Waiting}
+use Rattle.rules.proofs.Laws.{added-in-time}
 use Rattle.rules.proofs.PathSums.{path-sum}
 use Rattle.rules.proofs.Samples.{numbered, octetsOf, stayed, spare, handedIn, recordOf, answers, after, visit, Each, each}
 
@@ -182,13 +185,18 @@ Placed n k (call c) = kindIdentity (kindOf (c .message)) ≡ some mine → (k �
 apart : (n : Stop) → find mine (n .table) ≡ none → Each (Placed n) (n .events) → Apart mine n
 apart n free h = record { free = free; others = λ k c. each (Placed n) (n .events) h k (call c) }
 
+third-apart : Apart mine third
+unfolding same holds
+third-apart =
+    apart third refl (tt, (other refl, (other refl, (λ e. inl refl, (tt, (other refl, (tt, (λ e. inr refl, (other refl, (tt, tt))))))))))
+
 all-apart : Every (Apart mine) path
 unfolding same holds
 all-apart = (
   apart first refl (other refl, (tt, (other refl, (λ e. inl refl, (other refl, (tt, tt)))))),
   (
     apart second refl (other refl, (other refl, (λ e. inl refl, (other refl, (tt, (other refl, tt)))))),
-    (apart third refl (tt, (other refl, (other refl, (λ e. inl refl, (tt, (other refl, (tt, (λ e. inr refl, (other refl, (tt, tt)))))))))), tt),
+    (third-apart, tt),
   ),
 )
 
@@ -204,3 +212,28 @@ stays = (refl, refl)
 
 in-numbers : pos 98304000 +ℤ pos 16384000 ≡ pos 0 +ℤ pos 0 +ℤ pos 114688000
 in-numbers = sum
+
+-- at the third node the Follow_Up comes two ticks after the Sync, in time
+waits : Waiting slots (third .events) mine (50 * 65536) 3 7 followUpThird
+unfolding same holds
+waits =
+    record {
+      handed = syncThird;
+      here = refl;
+      two-step = refl;
+      is-sync = refl;
+      units = refl;
+      outcome = refl;
+      then = omega arith;
+      there = refl;
+      two-step-too = refl;
+      is-follow-up = refl;
+      between = λ k c a b e i. neither k a b (third-apart .others k c e i);
+    }
+  where
+    neither : (k : ℕ) → 3 < k → k < 7 → (k ≡ 3) ⊎ (some k ≡ some 7) → ⊥
+    neither k a b (inl e) = omega arith
+    neither k a b (inr e) = let f : k ≡ 7 = cc in omega arith
+
+in-time : getElem? (run rules slots (third .events)) 7 ≡ some (replied (addToPad followUpThird added (50 * 65536)))
+in-time = added-in-time slots (third .events) mine (50 * 65536) 3 7 followUpThird waits (omega arith)

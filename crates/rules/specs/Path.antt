@@ -16,7 +16,8 @@ use Rattle.rules.specs.Change.{padOf}
 use Rattle.rules.specs.Rules.{followUp, kindOf, kindIdentity, Mode, Call, created, Reply, rules}
 
 -- A node of the path: "each in one fixed mode with a table of its own", its list of calls and ticks, and the places in it of the
--- Sync's call and, where the Follow_Up crosses this node, of the Follow_Up's.
+-- Sync's call and, where the Follow_Up crosses this node, of the Follow_Up's. (At a node that it does not cross nothing is asked
+-- of that place.)
 pub record Stop : Type 0 where
   pub mode : Mode
   pub table : Slots
