@@ -12,7 +12,8 @@ use Rattle.records.specs.Node.{Lawful, Event, tick, call, Result, result, step,
 use Rattle.records.proofs.Orders.{order-free}
 use Rattle.rules.specs.Rules.{Reply, rules}
 use Rattle.rules.proofs.Laws.{lawful}
-use Rattle.rtm.specs.Stamped.{residenceBy, StampedCall, handed, handedEvent, stamped, SameRun, StampedOrderDoesNotMatter}
+use Rattle.rules.proofs.PathSums.{path-sum}
+use Rattle.rtm.specs.Stamped.{residenceBy, StampedCall, handed, handedEvent, stamped, SameRun, StampedOrderDoesNotMatter, asStop, StampedPathSum}
 
 -- a residence is the one of its answer
 by-answer : (r : Residence) → r ≡ residenceBy (residenceAnswer r)
@@ -41,3 +42,6 @@ stamped-lawful = record { own = λ c. lawful .own (handed c); want = λ c. lawfu
 
 pub stamped-order-does-not-matter : StampedOrderDoesNotMatter
 stamped-order-does-not-matter = order-free stamped stamped-lawful
+
+pub stamped-path-sum : StampedPathSum
+stamped-path-sum q s start last path = path-sum q s start last (map asStop path)

@@ -2,18 +2,23 @@
 -- theorems (crate `rules`) speak of them too.
 use Prim.Native.Nat.{ℕ}
 use mathlib.Core.Path.{_≡_}
-use mathlib.Core.Bool.{cond}
+use mathlib.Core.Bool.{Bool, cond}
 use mathlib.Core.List.{List, map}
+use mathlib.Core.Option.{Option}
 use lib.Dec.{eqb}
+use lib.IntN.{ℤ, pos, _+ℤ_}
 use Rattle.refusal.specs.Answer.{Answer, value, refused}
 use Rattle.residence.specs.declared.Residence.{Residence}
 use Rattle.residence.specs.declared.Residence.the-variants.{Units, InvalidStamp, TooLong}
 use Rattle.stamp.specs.declared.Stamp.{Stamp}
 use Rattle.stamp.specs.Stamp.{residenceOf}
+use Rattle.records.specs.declared.Identity.{Identity}
 use Rattle.records.specs.Slots.{Slots}
 use Rattle.records.specs.Node.{Node, Event, tick, call, run, final}
 use Rattle.records.specs.Order.{OrderFree}
-use Rattle.rules.specs.Rules.{Mode, Call, Reply, Word, rules}
+use Rattle.rules.specs.Change.{padOf}
+use Rattle.rules.specs.Rules.{Mode, Call, Reply, Word, sync, kindOf, rules}
+use Rattle.rules.specs.Path.{Stop, Apart, Every, SyncWay, FollowUps, residences}
 
 -- the residence whose answer is given: 9 an invalid stamp, 10 too long
 abbrev pub residenceBy : Answer ℕ → Residence
@@ -67,3 +72,31 @@ SameRun =
 -- and the order of calls with stamps does not matter
 abbrev pub StampedOrderDoesNotMatter : Type 0
 StampedOrderDoesNotMatter = OrderFree stamped
+
+-- A node of a path whose calls have stamps, as a node of the path theorem: by `SameRun` the results at its places are its own.
+pub record StampedStop : Type 0 where
+  pub mode : Mode
+  pub table : Slots
+  pub events : List (Event StampedCall)
+  pub syncPlace : ℕ
+  pub followUpPlace : Option ℕ
+
+abbrev pub asStop : StampedStop → Stop
+asStop n =
+    record {
+      mode = n .mode;
+      table = n .table;
+      events = map handedEvent (n .events);
+      syncPlace = n .syncPlace;
+      followUpPlace = n .followUpPlace;
+    }
+
+-- the sum of the pads over a path, for calls with stamps
+abbrev pub StampedPathSum : Type 0
+StampedPathSum =
+    (q : Identity) (s : Bool) (start last : List ℕ) (path : List StampedStop) (first second : ℤ)
+    → kindOf start ≡ sync q s
+    → Every (Apart q) (map asStop path)
+    → SyncWay start (map asStop path) last
+    → FollowUps q s (map asStop path) first second
+    → padOf last +ℤ second ≡ padOf start +ℤ first +ℤ pos (residences (map asStop path))
