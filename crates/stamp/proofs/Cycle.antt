@@ -12,9 +12,9 @@ use Rattle.stamp.specs.declared.Stamp.{Stamp}
 use Rattle.stamp.specs.Stamp.{secondsDifference, cycle, elapsed, nanosecondsOf}
 
 -- the code's difference, from the seconds' difference s and the nanoseconds x and y
-pub by-parts : (s a x b y : ℕ) → a < 2 ^ 32 → b < 2 ^ 32 → x ≤ 999999999 → y ≤ 999999999 → s ≡ secondsDifference a b
+pub by-parts : (s a x b y : ℕ) → a < 2 ^ 32 → b < 2 ^ 32 → x ≤ 999999999 → s ≡ secondsDifference a b
     → (s * 1000000000 + y + 4294967296000000000 - x) % 4294967296000000000 ≡ (b * 1000000000 + y + cycle - (a * 1000000000 + x)) % cycle
-by-parts s a x b y ha hb hx hy e = omega arith
+by-parts s a x b y ha hb hx e = omega arith
 
 -- nanoseconds that are accepted
 pub accepted : (entry exit : Stamp) (n : ℕ) → nanosecondsOf entry exit ≡ value n → n ≤ 3999999999

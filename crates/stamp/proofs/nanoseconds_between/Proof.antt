@@ -14,7 +14,7 @@ use Rattle.stamp.proofs.nanoseconds_between.Tie as tie
 parts : (c : tie.After-seconds-between) → (c .seconds-between .result * 1000000000 + c .before .before .before .before .before .args .exit .nanoseconds + 4294967296000000000 - c .before .before .before .before .before .args .entry .nanoseconds) % 4294967296000000000 ≡ elapsed (c .before .before .before .before .before .args .entry) (c .before .before .before .before .before .args .exit)
 parts c =
     let a = c .before .before .before .before .before .args in
-    by-parts (c .seconds-between .result) (a .entry .seconds) (a .entry .nanoseconds) (a .exit .seconds) (a .exit .nanoseconds) (omega arith) (omega arith) (omega arith) (omega arith) (c .seconds-between .ensures)
+    by-parts (c .seconds-between .result) (a .entry .seconds) (a .entry .nanoseconds) (a .exit .seconds) (a .exit .nanoseconds) (omega arith) (omega arith) (omega arith) (c .seconds-between .ensures)
 
 returns : tie.Need-returns
 returns c =
