@@ -3,6 +3,7 @@
 use crate::messages;
 use crate::print;
 use message::layout;
+use message::types;
 use records::Identity;
 use records::Record;
 use stamp::Stamp;
@@ -68,7 +69,7 @@ fn two_step(pad: i64, residence: u64) {
     print::signed(b"two-step, pad ", pad);
     print::number(b" and record ", residence);
     print::text(b": ");
-    let fields = messages::with_flag(messages::FOLLOW_UP, messages::SEQUENCE, pad);
+    let fields = messages::with_flag(types::FOLLOW_UP, messages::SEQUENCE, pad);
     let mut message = [0u8; 36];
     messages::write(&mut message, fields, b"");
     gather(&mut message, residence);

@@ -2,6 +2,7 @@
 use crate::messages;
 use crate::print;
 use egress::Joined;
+use message::types;
 
 fn join<'a>(sync: &'a [u8], follow_up: &'a [u8]) {
     match egress::join(sync, follow_up) {
@@ -14,8 +15,8 @@ fn join<'a>(sync: &'a [u8], follow_up: &'a [u8]) {
 
 // Joins a Sync that carries `first` and a Follow_Up that carries `second`.
 fn join_written(first_pad: i64, first: &[u8], second_pad: i64, sequence: u16, second: &[u8]) {
-    let first_fields = messages::with_flag(messages::SYNC, messages::SEQUENCE, first_pad);
-    let second_fields = messages::with_flag(messages::FOLLOW_UP, sequence, second_pad);
+    let first_fields = messages::with_flag(types::SYNC, messages::SEQUENCE, first_pad);
+    let second_fields = messages::with_flag(types::FOLLOW_UP, sequence, second_pad);
     let mut sync = [0u8; 64];
     let mut follow_up = [0u8; 64];
     let first_size = messages::write(&mut sync, first_fields, first);

@@ -3,6 +3,7 @@
 mod additions;
 mod headers;
 mod joins;
+mod limits;
 mod lists;
 mod messages;
 mod print;
@@ -11,6 +12,7 @@ mod residences;
 fn main() {
     residences::run();
     lists::run();
+    limits::run();
     additions::run();
     joins::run();
     headers::run();

@@ -3,16 +3,13 @@ use message::Fields;
 use message::Header;
 use message::SubTlv;
 use message::Written;
+use message::types;
 
 pub(crate) const CLOCK: u64 = 0x0001_0203_0405_0607;
 
 pub(crate) const PORT: u16 = 1;
 
 pub(crate) const SEQUENCE: u16 = 258;
-
-pub(crate) const SYNC: u8 = 0;
-
-pub(crate) const FOLLOW_UP: u8 = 8;
 
 // The ends of the pad's range.
 pub(crate) const LOWEST: i64 = -9_223_372_036_854_775_808;
@@ -24,7 +21,7 @@ pub(crate) fn of_type(message_type: u16, pad: i64) -> Fields {
     let header = Header { message_type, pad };
     let sub_tlv = SubTlv {
         two_step: false,
-        ptp_type: SYNC,
+        ptp_type: types::SYNC,
         clock: CLOCK,
         port: PORT,
         sequence: SEQUENCE,
@@ -35,7 +32,7 @@ pub(crate) fn of_type(message_type: u16, pad: i64) -> Fields {
 // A message of type 3 with S set.
 pub(crate) fn with_flag(ptp_type: u8, sequence: u16, pad: i64) -> Fields {
     let header = Header {
-        message_type: 3,
+        message_type: types::PTP_IPV4,
         pad,
     };
     let sub_tlv = SubTlv {
