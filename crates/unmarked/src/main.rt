@@ -8,12 +8,14 @@ mod lists;
 mod messages;
 mod print;
 mod residences;
+mod waits;
 
 fn main() {
     residences::run();
     lists::run();
     limits::run();
     additions::run();
+    waits::run();
     joins::run();
     headers::run();
 }
