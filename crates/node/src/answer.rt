@@ -26,15 +26,12 @@ pub enum Accepted {
     Refused(u8),
 }
 
-// Units from 262,144,000,000,000 (four seconds) on come from no stamps.
-const LIMIT: u64 = 262_144_000_000_000;
-
 pub(crate) fn accept(residence: Residence) -> Accepted
     ensures { λ r. ⌜ unitsAnswer r ≡ acceptedOf residence ⌝ }
 {
     match residence {
         Residence::Units(units) => {
-            if LIMIT <= units {
+            if residence::LIMIT <= units {
                 return Accepted::Refused(refusal::TOO_LONG_RESIDENCE);
             }
             Accepted::Units(units)

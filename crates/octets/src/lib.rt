@@ -10,6 +10,7 @@ pub use number::octets16;
 pub use number::octets32;
 pub use number::octets64;
 pub use number::read_signed;
+pub use number::read8;
 pub use number::read16;
 pub use number::read32;
 pub use number::read64;

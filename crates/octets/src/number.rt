@@ -1,4 +1,4 @@
-// Numbers of two, four and eight octets, and the signed number of eight.
+// Numbers of one, two, four and eight octets, and the signed number of eight.
 ghost use mathlib.Core.Path.{_≡_};
 ghost use Prim.Native.Nat.{_+_, _*_};
 ghost use lib.ListN.{getD};
@@ -24,6 +24,13 @@ fn four(a: u8, b: u8, c: u8, d: u8) -> u32
     ensures { λ r. ⌜ r ≡ ((a * 256 + b) * 256 + c) * 256 + d ⌝ }
 {
     ((a as u32 * 256 + b as u32) * 256 + c as u32) * 256 + d as u32
+}
+
+// The number in octet `at`.
+pub fn read8(s: &[u8], at: usize) -> u8
+    ensures { λ r. ⌜ r ≡ number 1 (now (s .entry)) at ⌝ }
+{
+    octet(s, at, 0)
 }
 
 // The number in octets `at` and `at` + 1.

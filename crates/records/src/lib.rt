@@ -1,6 +1,8 @@
 // The records that wait for a Follow_Up (document 01, What a node does): what they are, and, in
 // specs/ and proofs/, what a table of them does and the theorem that the order of calls at a node
 // does not matter. The table itself is the crate `table`.
+ghost use mathlib.Core.Path.{_≡_};
+ghost use Rattle.records.specs.Slots.{identityOf, same, zeros as zeros·spec};
 
 // The identity of a Sync or a Follow_Up: its port identity, in two numbers, and its sequence.
 pub struct Identity {
@@ -18,4 +20,45 @@ pub struct Record {
     pub sequence: u16,
     pub residence: u64,
     pub wait: u8,
+}
+
+impl Identity {
+    // The two are the same: clock identity, port number and sequence.
+    pub fn equals(self, other: Identity) -> bool
+        ensures { λ r. ⌜ r ≡ same self other ⌝ }
+    {
+        if self.clock != other.clock {
+            return false;
+        }
+        if self.port != other.port {
+            return false;
+        }
+        self.sequence == other.sequence
+    }
+}
+
+impl Record {
+    // What the slot holds for an identity, whether it is empty or not.
+    pub fn identity(self) -> Identity
+        ensures { λ r. ⌜ r ≡ identityOf self ⌝ }
+    {
+        Identity {
+            clock: self.clock,
+            port: self.port,
+            sequence: self.sequence,
+        }
+    }
+
+    // What an operation that empties a slot leaves in it.
+    pub fn zeros() -> Record
+        ensures { λ r. ⌜ r ≡ zeros·spec ⌝ }
+    {
+        Record {
+            clock: 0,
+            port: 0,
+            sequence: 0,
+            residence: 0,
+            wait: 0,
+        }
+    }
 }

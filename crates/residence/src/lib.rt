@@ -9,3 +9,6 @@ pub enum Residence {
     // Longer than any residence that is accepted (refusal 10).
     TooLong,
 }
+
+// Units from here on (four seconds) come from no stamps, and no node keeps them.
+pub const LIMIT: u64 = 262_144_000_000_000;

@@ -43,18 +43,6 @@ pub struct Ticked {
     pub emptied: u8,
 }
 
-fn zero_slot() -> Record
-    ensures { λ r. ⌜ r ≡ zeros ⌝ }
-{
-    Record {
-        clock: 0,
-        port: 0,
-        sequence: 0,
-        residence: 0,
-        wait: 0,
-    }
-}
-
 // The slot holds a record with this identity.
 fn is_of(slot: Record, identity: Identity) -> bool
     ensures { λ r. ⌜ r ≡ holds identity slot ⌝ }
@@ -62,13 +50,7 @@ fn is_of(slot: Record, identity: Identity) -> bool
     if slot.wait == 0 {
         return false;
     }
-    if identity.clock != slot.clock {
-        return false;
-    }
-    if identity.port != slot.port {
-        return false;
-    }
-    identity.sequence == slot.sequence
+    identity.equals(slot.identity())
 }
 
 // A slot after a tick.
@@ -80,7 +62,7 @@ fn age(slot: Record) -> Record
         return slot;
     }
     if wait == 1 {
-        return zero_slot();
+        return Record::zeros();
     }
     let mut older = slot;
     older.wait = wait - 1;
@@ -92,7 +74,7 @@ impl Table {
     pub fn new() -> Table
         ensures { λ r. ⌜ r .slots ≡ replicate 16 zeros ⌝ }
     {
-        let slot = zero_slot();
+        let slot = Record::zeros();
         Table { slots: [slot; 16] }
     }
 
@@ -187,7 +169,7 @@ impl Table {
         }
         let mut slots = self.slots;
         let slot = slots[at];
-        slots[at] = zero_slot();
+        slots[at] = Record::zeros();
         let table = Table { slots };
         Taken {
             table,

@@ -18,8 +18,8 @@ ages (suc (suc w)) s a b = let e : suc (suc w) - 1 ≡ suc w = omega arith in rw
 returns : tie.Need-returns
 returns c = search needs
 
-zero-slot-requires : tie.Need-zero-slot-requires
-zero-slot-requires c κs = search needs
+zeros-requires : tie.Need-zeros-requires
+zeros-requires c κs = search needs
 
 returns-2 : tie.Need-returns-2
 returns-2 c = search needs
@@ -31,4 +31,4 @@ returns-3 : tie.Need-returns-3
 returns-3 c = ages (c .before .before .args .slot .wait) (c .before .before .args .slot) (c .before .if1 .left) (c .if2 .left)
 
 pub age-spec : {M : Type 1} → statement M
-age-spec = tie.close (tie.spec returns zero-slot-requires returns-2 sub-older returns-3)
+age-spec = tie.close (tie.spec returns zeros-requires returns-2 sub-older returns-3)

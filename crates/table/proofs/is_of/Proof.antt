@@ -1,5 +1,7 @@
--- `is_of` meets its contract: the tests on the way to each return decide those of `holds`, in their order.
+-- `is_of` meets its contract: an empty slot holds no record, and any other the one of its identity.
 -- Assumes nothing.
+use mathlib.Core.Path.{ap, _∙_}
+use borrow.Author.Needs.{needs}
 use borrow.Author.Tests.{eq-eqb, ne-eqb}
 use native.Mathlib.Omega.{arith}
 use Rattle.records.specs.Slots.{same, holds}
@@ -12,31 +14,17 @@ returns c =
     let s = c .before .before .args .slot in
     simp (eq-eqb (s .wait) 0 (omega arith))
 
+identity-requires : tie.Need-identity-requires
+identity-requires c κs = search needs
+
+equals-requires : tie.Need-equals-requires
+equals-requires c κs = search needs
+
 returns-2 : tie.Need-returns-2
-unfolding holds same
+unfolding holds
 returns-2 c =
-    let a = c .before .before .before .before .before .args in
-    simp (ne-eqb (a .slot .wait) 0 (λ e. omega arith), ne-eqb (a .identity .clock) (a .slot .clock) (λ e. omega arith))
-
-returns-3 : tie.Need-returns-3
-unfolding holds same
-returns-3 c =
-    let a = c .before .before .before .before .before .before .before .before .args in
-    simp (
-      ne-eqb (a .slot .wait) 0 (λ e. omega arith),
-      eq-eqb (a .identity .clock) (a .slot .clock) (omega arith),
-      ne-eqb (a .identity .port) (a .slot .port) (λ e. omega arith),
-    )
-
-returns-4 : tie.Need-returns-4
-unfolding holds same
-returns-4 c =
-    let a = c .before .before .before .before .before .before .before .before .before .before .args in
-    simp (
-      ne-eqb (a .slot .wait) 0 (λ e. omega arith),
-      eq-eqb (a .identity .clock) (a .slot .clock) (omega arith),
-      eq-eqb (a .identity .port) (a .slot .port) (omega arith),
-    )
+    let a = c .before .before .before .before .args in
+    simp (ne-eqb (a .slot .wait) 0 (λ e. omega arith)) (c .equals .ensures ∙ ap (same (a .identity)) (c .before .identity .ensures))
 
 pub is-of-spec : {M : Type 1} → statement M
-is-of-spec = tie.close (tie.spec returns returns-2 returns-3 returns-4)
+is-of-spec = tie.close (tie.spec returns identity-requires equals-requires returns-2)

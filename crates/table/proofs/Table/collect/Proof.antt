@@ -22,8 +22,8 @@ mul-slot c = search needs
 array-copy-out-slot : tie.Need-array-copy-out-slot
 array-copy-out-slot c = search needs
 
-zero-slot-requires : tie.Need-zero-slot-requires
-zero-slot-requires c κs = search needs
+zeros-requires : tie.Need-zeros-requires
+zeros-requires c κs = search needs
 
 mul-slots : tie.Need-mul-slots
 mul-slots c = search needs
@@ -38,7 +38,7 @@ returns-2 c =
     rw (
       found-at (a .identity) (a .self .slots) (p .place .result) (simp length-map at (p .before .good .0 .1 .1 .0 .1 .0 .1)) (p .place .ensures) (omega arith),
       ← p .place .ensures,
-      c .zero-slot .ensures,
+      c .zeros .ensures,
     )
 
 pub collect-spec : {M : Type 1} → statement M
@@ -49,7 +49,7 @@ collect-spec =
     returns
     mul-slot
     array-copy-out-slot
-    zero-slot-requires
+    zeros-requires
     mul-slots
     array-set-from-slots
     returns-2)

@@ -6,11 +6,11 @@ use lib.ListN.{replicate}
 use Rattle.table.proofs.Table.new.Statement.{statement}
 use Rattle.table.proofs.Table.new.Tie as tie
 
-zero-slot-requires : tie.Need-zero-slot-requires
-zero-slot-requires c κs = search needs
+zeros-requires : tie.Need-zeros-requires
+zeros-requires c κs = search needs
 
 returns : tie.Need-returns
-returns c = ap (replicate 16) (c .zero-slot .ensures)
+returns c = ap (replicate 16) (c .zeros .ensures)
 
 pub new-spec : {M : Type 1} → statement M
-new-spec = tie.close (tie.spec zero-slot-requires returns)
+new-spec = tie.close (tie.spec zeros-requires returns)
