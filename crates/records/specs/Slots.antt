@@ -24,6 +24,11 @@ same p q = eqb (p .clock) (q .clock) && (eqb (p .port) (q .port) && eqb (p .sequ
 abbrev pub empty : Record → Bool
 empty s = eqb (s .wait) 0
 
+-- the records of a table, in slot order
+abbrev pub recordsOf : Slots → Slots
+recordsOf [] = []
+recordsOf (s ∷ t) = cond (empty s) (recordsOf t) (s ∷ recordsOf t)
+
 -- the slot holds a record with this identity
 unfoldable pub holds : Identity → Record → Bool
 holds q s = not (empty s) && same q (identityOf s)

@@ -48,3 +48,6 @@ pub const LIST_TOO_LONG: u8 = 19;
 pub const BAD_ENTRY: u8 = 20;
 
 pub const NO_ENTRY: u8 = 21;
+
+// An image of the table.
+pub const IMAGE: u8 = 22;

@@ -1,0 +1,13 @@
+pub mod Fields
+pub mod Layouts
+pub mod Offsets
+pub mod Filling
+pub mod BodiesRead
+pub mod Listed
+pub mod Judging
+pub mod Writing
+pub mod Pieces
+pub mod Loads
+pub mod Returns
+pub mod Writes
+pub mod SameImages

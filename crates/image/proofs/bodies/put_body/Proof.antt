@@ -1,0 +1,141 @@
+-- `put_body` meets its contract: each field is stored behind those before it.
+-- Assumes nothing.
+use mathlib.Core.Path.{_≡_, ap}
+use mathlib.Core.List.{List, [], _∷_, _++_}
+use Prim.Native.Nat.{ℕ, _+_}
+use native.Mathlib.Omega.{arith}
+use lib.ListN.{length}
+use Rattle.octets.specs.Octets.{octets, put}
+use Rattle.image.specs.Layout.{fieldOctets}
+use Rattle.image.specs.Image.{form, fieldsOf}
+use Rattle.image.proofs.Writing.{writing-start, writing-on, writing-done}
+use borrow.Author.Needs.{needs}
+use Rattle.image.proofs.bodies.put_body.Statement.{statement}
+use Rattle.image.proofs.bodies.put_body.Tie as tie
+
+octets64-requires : tie.Need-octets64-requires
+octets64-requires c κs = search needs
+
+octets16-requires : tie.Need-octets16-requires
+octets16-requires c κs = search needs
+
+octets16-requires-2 : tie.Need-octets16-requires-2
+octets16-requires-2 c κs = search needs
+
+octets64-requires-2 : tie.Need-octets64-requires-2
+octets64-requires-2 c κs = search needs
+
+add-put : tie.Need-add-put
+add-put c = search needs
+
+slice-aggregate-put : tie.Need-slice-aggregate-put
+slice-aggregate-put c = search needs
+
+put-requires : tie.Need-put-requires
+put-requires c κs = search needs
+
+add-put-2 : tie.Need-add-put-2
+add-put-2 c = search needs
+
+slice-aggregate-put-2 : tie.Need-slice-aggregate-put-2
+slice-aggregate-put-2 c = search needs
+
+put-requires-2 : tie.Need-put-requires-2
+put-requires-2 c κs = search needs
+
+add-put-3 : tie.Need-add-put-3
+add-put-3 c = search needs
+
+slice-aggregate-put-3 : tie.Need-slice-aggregate-put-3
+slice-aggregate-put-3 c = search needs
+
+put-requires-3 : tie.Need-put-requires-3
+put-requires-3 c κs = search needs
+
+add-put-4 : tie.Need-add-put-4
+add-put-4 c = search needs
+
+slice-aggregate-put-4 : tie.Need-slice-aggregate-put-4
+slice-aggregate-put-4 c = search needs
+
+put-requires-4 : tie.Need-put-requires-4
+put-requires-4 c κs = search needs
+
+add-put-5 : tie.Need-add-put-5
+add-put-5 c = search needs
+
+slice-aggregate-put-5 : tie.Need-slice-aggregate-put-5
+slice-aggregate-put-5 c = search needs
+
+put-requires-5 : tie.Need-put-requires-5
+put-requires-5 c κs = search needs
+
+same-length : tie.Need-same-length
+same-length c = search needs
+
+returns : tie.Need-returns
+returns c =
+    let p5 = c .before .before in
+    let p4 = p5 .before .before .before .before .before in
+    let p3 = p4 .before .before .before .before .before in
+    let p2 = p3 .before .before .before .before .before in
+    let p1 = p2 .before .before .before .before .before in
+    let f4 = p1 .before .before .before in
+    let f3 = f4 .before in
+    let f2 = f3 .before in
+    let f1 = f2 .before in
+    let start = f1 .before .before in
+    let o = start .args .out .now in
+    let i = start .args .at in
+    let r = start .args .slot in
+    let all = fieldOctets (form .widths) (fieldsOf r) in
+    let n = length o in
+    let g = put o i all in
+    let m1 = p1 .put .last .0 in
+    let m2 = p2 .put2 .last .0 in
+    let m3 = p3 .put3 .last .0 in
+    let m4 = p4 .put4 .last .0 in
+    let m5 = p5 .put5 .last .0 in
+    let wait = octets 1 (r .wait) in
+    let residence = octets 8 (r .residence) in
+    let sequence = octets 2 (r .sequence) in
+    let port = octets 2 (r .port) in
+    let clock = octets 8 (r .clock) in
+    let r4 = wait in
+    let r3 = residence ++ r4 in
+    let r2 = sequence ++ r3 in
+    let r1 = port ++ r2 in
+    let w0 = writing-start o all i (i + 0) (omega arith) (omega arith) in
+    let w1 = writing-on n g o (i + 0) m1 (f1 .octets64 .result) clock r1 (i + 8) w0 (p1 .put .ensures) (f1 .octets64 .ensures) (omega arith) in
+    let w2 = writing-on n g m1 (i + 8) m2 (f2 .octets16 .result) port r2 (i + 10) w1 (p2 .put2 .ensures) (f2 .octets16 .ensures) (omega arith) in
+    let w3 = writing-on n g m2 (i + 10) m3 (f3 .octets162 .result) sequence r3 (i + 12) w2 (p3 .put3 .ensures) (f3 .octets162 .ensures) (omega arith) in
+    let w4 = writing-on n g m3 (i + 12) m4 (f4 .octets642 .result) residence r4 (i + 20) w3 (p4 .put4 .ensures) (f4 .octets642 .ensures) (omega arith) in
+    let octet : _≡_ {A = List ℕ} (r .wait ∷ []) wait = ap (λ (x : ℕ). x ∷ []) (omega (arith, start .good .1 .1 .0 .1 .1)) in
+    let w5 = writing-on n g m4 (i + 20) m5 (r .wait ∷ []) wait [] (i + 21) w4 (p5 .put5 .ensures) octet (omega arith) in
+    writing-done n g m5 (i + 21) w5
+
+pub put-body-spec : {M : Type 1} → statement M
+put-body-spec =
+    tie.close
+    (tie.spec
+    octets64-requires
+    octets16-requires
+    octets16-requires-2
+    octets64-requires-2
+    add-put
+    slice-aggregate-put
+    put-requires
+    add-put-2
+    slice-aggregate-put-2
+    put-requires-2
+    add-put-3
+    slice-aggregate-put-3
+    put-requires-3
+    add-put-4
+    slice-aggregate-put-4
+    put-requires-4
+    add-put-5
+    slice-aggregate-put-5
+    put-requires-5
+    same-length
+    returns)

@@ -1,0 +1,4 @@
+pub mod Layout
+pub mod Image
+pub mod Return
+pub mod Answers
