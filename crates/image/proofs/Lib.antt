@@ -11,3 +11,4 @@ pub mod Loads
 pub mod Returns
 pub mod Writes
 pub mod SameImages
+pub mod Serving

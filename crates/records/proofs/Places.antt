@@ -1,14 +1,14 @@
--- Places in a list of calls and ticks: what stands there, the ticks before it, the table that a run has there, and its result there.
+-- Places in a list of calls, ticks and switchovers: what stands there, the ticks before it, the table that a run has there, and its result there.
 -- Assumes nothing.
 use Prim.Native.Nat.{ℕ, zero, suc, _<_, _≤_}
-use mathlib.Core.Path.{_≡_, refl, sym, ap}
+use mathlib.Core.Path.{_≡_, refl, sym, ap, _∙_}
 use mathlib.Core.List.{List, [], _∷_}
 use mathlib.Core.Option.{Option, none, some, Option·none-ne-some}
 use native.Mathlib.Omega.{arith}
 use native.Mathlib.Decide.{decLe}
 use lib.ListN.{length, getElem?, take}
 use Rattle.records.specs.Slots.{Slots, emptied}
-use Rattle.records.specs.Node.{Node, Event, tick, call, step, result, run, final}
+use Rattle.records.specs.Node.{Node, Event, tick, call, switchover, step, result, run, final}
 use Rattle.records.specs.Order.{ticks, tickCounts}
 
 module _ {A : Type 0} where
@@ -35,6 +35,7 @@ module _ {C : Type 0} where
   pub data At (es : List (Event C)) (i : ℕ) : Type 0 where
     at-tick : getElem? es i ≡ some tick → At es i
     at-call : (c : C) → getElem? es i ≡ some (call c) → At es i
+    at-switchover : getElem? es i ≡ some switchover → At es i
     past : getElem? es i ≡ none → At es i
 
   pub at : (es : List (Event C)) (i : ℕ) → At es i
@@ -44,20 +45,39 @@ module _ {C : Type 0} where
       go none e = past e
       go (some tick) e = at-tick e
       go (some (call c)) e = at-call c e
+      go (some switchover) e = at-switchover e
+
+  -- the ticks before the next event
+  abbrev beaten : Event C → ℕ → ℕ
+  beaten tick n = suc n
+  beaten (call c) n = n
+  beaten switchover n = n
+
+  beaten-suc : (e : Event C) (n : ℕ) → suc (beaten e n) ≡ beaten e (suc n)
+  beaten-suc tick n = refl
+  beaten-suc (call c) n = refl
+  beaten-suc switchover n = refl
+
+  ticks-first : (es : List (Event C)) (e : Event C) → ticks 1 (e ∷ es) ≡ beaten e 0
+  ticks-first es tick = refl
+  ticks-first es (call c) = refl
+  ticks-first es switchover = refl
+
+  ticks-at : (es : List (Event C)) (i : ℕ) (e : Event C) → getElem? es i ≡ some e → ticks (suc i) es ≡ beaten e (ticks i es)
+  ticks-at [] i e h = absurd (Option·none-ne-some e h)
+  ticks-at (x ∷ es) zero e h = let f : x ≡ e = cc in rw (← f) (ticks-first es x)
+  ticks-at (tick ∷ es) (suc i) e h = ap suc (ticks-at es i e h) ∙ beaten-suc e (ticks i es)
+  ticks-at (call c ∷ es) (suc i) e h = ticks-at es i e h
+  ticks-at (switchover ∷ es) (suc i) e h = ticks-at es i e h
 
   pub ticks-tick : (es : List (Event C)) (i : ℕ) → getElem? es i ≡ some tick → ticks (suc i) es ≡ suc (ticks i es)
-  ticks-tick [] i h = absurd (Option·none-ne-some tick h)
-  ticks-tick (tick ∷ es) zero h = refl
-  ticks-tick (tick ∷ es) (suc i) h = ap suc (ticks-tick es i h)
-  ticks-tick (call c ∷ es) zero h = cc
-  ticks-tick (call c ∷ es) (suc i) h = ticks-tick es i h
+  ticks-tick es i = ticks-at es i tick
 
   pub ticks-call : (es : List (Event C)) (i : ℕ) (c : C) → getElem? es i ≡ some (call c) → ticks (suc i) es ≡ ticks i es
-  ticks-call [] i c h = absurd (Option·none-ne-some (call c) h)
-  ticks-call (tick ∷ es) zero c h = cc
-  ticks-call (tick ∷ es) (suc i) c h = ap suc (ticks-call es i c h)
-  ticks-call (call d ∷ es) zero c h = refl
-  ticks-call (call d ∷ es) (suc i) c h = ticks-call es i c h
+  ticks-call es i c = ticks-at es i (call c)
+
+  pub ticks-switchover : (es : List (Event C)) (i : ℕ) → getElem? es i ≡ some switchover → ticks (suc i) es ≡ ticks i es
+  ticks-switchover es i = ticks-at es i switchover
 
   pub ticks-past : (es : List (Event C)) (i : ℕ) → getElem? es i ≡ none → ticks (suc i) es ≡ ticks i es
   ticks-past [] zero h = refl
@@ -65,6 +85,7 @@ module _ {C : Type 0} where
   ticks-past (e ∷ es) zero h = absurd (Option·none-ne-some e (sym h))
   ticks-past (tick ∷ es) (suc i) h = ap suc (ticks-past es i h)
   ticks-past (call c ∷ es) (suc i) h = ticks-past es i h
+  ticks-past (switchover ∷ es) (suc i) h = ticks-past es i h
 
   ticks-suc : (es : List (Event C)) (i : ℕ) → ticks i es ≤ ticks (suc i) es
   ticks-suc es i = go (at es i)
@@ -72,6 +93,7 @@ module _ {C : Type 0} where
       go : At es i → ticks i es ≤ ticks (suc i) es
       go (at-tick h) = omega (arith, ticks-tick es i h)
       go (at-call c h) = omega (arith, ticks-call es i c h)
+      go (at-switchover h) = omega (arith, ticks-switchover es i h)
       go (past h) = omega (arith, ticks-past es i h)
 
   pub ticks-mono : (es : List (Event C)) (i j : ℕ) → i ≤ j → ticks i es ≤ ticks j es
@@ -100,6 +122,7 @@ module _ {C : Type 0} where
       go : At es n → (k < ticks n es → NthTick es n k) → NthTick es (suc n) k
       go (at-tick e) f = last e (decLe (suc k) (ticks n es)) f
       go (at-call c e) f = up (f (omega (arith, ticks-call es n c e)))
+      go (at-switchover e) f = up (f (omega (arith, ticks-switchover es n e)))
       go (past e) f = up (f (omega (arith, ticks-past es n e)))
 
 module _ (N : Node) where
@@ -131,6 +154,7 @@ module _ (N : Node) where
   counts-length t [] = refl
   counts-length t (tick ∷ es) = ap suc (counts-length (step N t tick) es)
   counts-length t (call c ∷ es) = counts-length (step N t (call c)) es
+  counts-length t (switchover ∷ es) = counts-length (step N t switchover) es
 
   pub counts-at :
       (t : Slots) (es : List (Event (N .Call))) (i : ℕ)
@@ -139,5 +163,7 @@ module _ (N : Node) where
   counts-at t [] i h = absurd (Option·none-ne-some tick h)
   counts-at t (tick ∷ es) zero h = refl
   counts-at t (call c ∷ es) zero h = cc
+  counts-at t (switchover ∷ es) zero h = cc
   counts-at t (tick ∷ es) (suc i) h = counts-at (step N t tick) es i h
   counts-at t (call c ∷ es) (suc i) h = counts-at (step N t (call c)) es i h
+  counts-at t (switchover ∷ es) (suc i) h = counts-at (step N t switchover) es i h

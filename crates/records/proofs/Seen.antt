@@ -9,12 +9,12 @@ use native.Mathlib.Decide.{decLe}
 use lib.ListN.{getElem?}
 use Rattle.records.specs.declared.Identity.{Identity}
 use Rattle.records.specs.Slots.{Slots}
-use Rattle.records.specs.Node.{Node, Lawful, Event, tick, call}
+use Rattle.records.specs.Node.{Node, Lawful, Event, tick, call, switchover}
 use Rattle.records.specs.Order.{ticks}
 use Rattle.records.proofs.Holding.{decide}
-use Rattle.records.proofs.View.{view}
+use Rattle.records.proofs.View.{view, view-records}
 use Rattle.records.proofs.Effects.{request-other}
-use Rattle.records.proofs.Places.{At, at-tick, at-call, past, at, ticks-tick, ticks-call, ticks-past, ticks-mono, after, after-suc, after-past}
+use Rattle.records.proofs.Places.{At, at-tick, at-call, at-switchover, past, at, ticks-tick, ticks-call, ticks-switchover, ticks-past, ticks-mono, after, after-suc, after-past}
 
 -- at place i stands a call of the identity
 abbrev pub Own : (N : Node) → List (Event (N .Call)) → Identity → ℕ → Type 0
@@ -46,9 +46,15 @@ module _ (N : Node) (L : Lawful N) (t : Slots) (es : List (Event (N .Call))) (q 
       called c e none f = foreign c e (λ h. let z : _≡_ {A = ℕ} 0 1 = cc in omega arith)
       called c e (some p) f = apart c e p f (decide p q)
 
+      handed-over : (u : Slots) → view q (N .handover u) ≡ view q u
+      handed-over u = sym (view-records q (N .handover u)) ∙ ap (view q) (L .kept u) ∙ view-records q u
+
       go : At es i → Kind N t es q i
       go (at-tick e) = beat e
       go (at-call c e) = called c e (N .identity c) refl
+      go (at-switchover e) =
+          other (λ o. let z : _≡_ {A = ℕ} 0 1 = cc in omega arith) (ticks-switchover es i e)
+          (rw (after-suc N t es i switchover e) (handed-over (after N t i es)))
       go (past e) = other (λ o. let z : _≡_ {A = ℕ} 0 1 = cc in omega arith) (ticks-past es i e) (rw (after-past N t es i e))
 
   -- between two places with no tick and no call of the identity its view stays

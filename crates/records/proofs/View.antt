@@ -10,12 +10,21 @@ use native.Mathlib.Omega.{arith}
 use lib.ListN.{length, getElem?, set}
 use Rattle.records.specs.declared.Identity.{Identity}
 use Rattle.records.specs.declared.Record.{Record}
-use Rattle.records.specs.Slots.{Slots, identityOf, empty, holds, zeros, lowest, find, fresh, addTo, removeFrom, aged, ticked, count}
+use Rattle.records.specs.Slots.{Slots, identityOf, empty, recordsOf, holds, zeros, lowest, find, fresh, addTo, removeFrom, aged, ticked, count}
 use Rattle.records.proofs.Holding.{decide, holds-zeros, holds-empty, holds-self, holds-other, holds-aged}
 
 abbrev pub view : Identity → Slots → Slots
 view q [] = []
 view q (s ∷ t) = cond (holds q s) (s ∷ view q t) (view q t)
+
+-- it is a matter of the records alone
+pub view-records : (q : Identity) (t : Slots) → view q (recordsOf t) ≡ view q t
+view-records q [] = refl
+view-records q (s ∷ t) = go (empty s) refl (view-records q t)
+  where
+    go : (b : Bool) → empty s ≡ b → view q (recordsOf t) ≡ view q t → view q (cond b (recordsOf t) (s ∷ recordsOf t)) ≡ view q (s ∷ t)
+    go true e h = rw (holds-empty q s e) h
+    go false e h = rw h
 
 pub find-view : (q : Identity) (t : Slots) → find q t ≡ head? (view q t)
 find-view q [] = refl

@@ -1,5 +1,5 @@
--- A node over the table: what a call asks of the table, what it replies, and runs of calls and ticks. The rules of document 01
--- are one such node (crate `rules`).
+-- A node over the table: what a call asks of the table, what it replies, and runs of calls, ticks and switchovers. The rules of
+-- document 01 are one such node (crate `rules`).
 use Prim.Native.Nat.{ℕ}
 use mathlib.Core.Path.{_≡_}
 use mathlib.Core.Bool.{Bool, cond}
@@ -7,7 +7,7 @@ use mathlib.Core.List.{List, [], _∷_}
 use mathlib.Core.Option.{Option, none, some}
 use Rattle.refusal.specs.Answer.{Answer, value, refused}
 use Rattle.records.specs.declared.Identity.{Identity}
-use Rattle.records.specs.Slots.{Slots, find, vacant, addAnswer, addTo, collectAnswer, removeFrom, ticked, emptied}
+use Rattle.records.specs.Slots.{Slots, recordsOf, find, vacant, addAnswer, addTo, collectAnswer, removeFrom, ticked, emptied}
 
 -- what a call asks of the table
 pub data Request : Type 0 where
@@ -17,7 +17,8 @@ pub data Request : Type 0 where
 
 -- A node. A call is one message with all that is handed in beside it, except the table. `identity` is that of the call's message,
 -- where it has one. `commits c u`: a call that finds a record with residence u takes it. `reply` is made of the table's answer;
--- it has all that the call leaves, except the table. `answer` is the reply's answer.
+-- it has all that the call leaves, except the table. `answer` is the reply's answer. `handover` is the table with which the card
+-- that takes over goes on.
 pub record Node : Type 1 where
   pub Call : Type 0
   pub Reply : Type 0
@@ -27,6 +28,7 @@ pub record Node : Type 1 where
   pub commits : Call → ℕ → Bool
   pub reply : Call → Answer ℕ → Reply
   pub answer : Reply → Answer Word
+  pub handover : Slots → Slots
 
 -- the table's answer to a request: 13, 14, 15, or the residence collected (0 where none is)
 abbrev pub tableAnswer : Request → Slots → Answer ℕ
@@ -48,24 +50,29 @@ tableAfter commits nothing t = t
 tableAfter commits (add q u) t = addLeaves q u t (tableAnswer (add q u) t)
 tableAfter commits (collect q) t = collectLeaves commits q t (tableAnswer (collect q) t)
 
--- "Demand 3's lists hold node calls and ticks alone"
+-- "Demand 3's lists hold node calls and ticks alone"; but it "reads a loaded table as the one written, if no call, a tick included,
+-- falls between" (document 02, W-201), so that a switchover may stand anywhere among them
 pub data Event (C : Type 0) : Type 0 where
   tick : Event C
   call : C → Event C
+  switchover : Event C
 
--- what comes of an event: a tick's count, a call's reply
+-- what comes of an event: a tick's count, a call's reply; a switchover tells nothing
 pub data Result (R : Type 0) : Type 0 where
   told : ℕ → Result R
   replied : R → Result R
+  taken-over : Result R
 
 module _ (N : Node) where
   abbrev pub step : Slots → Event (N .Call) → Slots
   step t tick = ticked t
   step t (call c) = tableAfter (N .commits c) (N .request c) t
+  step t switchover = N .handover t
 
   abbrev pub result : Slots → Event (N .Call) → Result (N .Reply)
   result t tick = told (emptied t)
   result t (call c) = replied (N .reply c (tableAnswer (N .request c) t))
+  result t switchover = taken-over
 
   -- "each call or tick finds the table as the one before left it": the results of a list, in its order, and the table at its end
   abbrev pub run : Slots → List (Event (N .Call)) → List (Result (N .Reply))
@@ -76,8 +83,8 @@ module _ (N : Node) where
   final t [] = t
   final t (e ∷ es) = final (step t e) es
 
--- What a node must satisfy for the theorem about orders: a call asks only for the record of its own identity, and one that is
--- told that no slot is empty answers 14.
+-- What a node must satisfy for the theorem about orders: a call asks only for the record of its own identity, one that is told that
+-- no slot is empty answers 14, and a switchover leaves the same records in the same order.
 abbrev pub asked : Request → Option Identity
 asked nothing = none
 asked (add q u) = some q
@@ -86,3 +93,4 @@ asked (collect q) = some q
 pub record Lawful (N : Node) : Type 0 where
   pub own : (c : N .Call) (q : Identity) → asked (N .request c) ≡ some q → N .identity c ≡ some q
   pub want : (c : N .Call) (q : Identity) (u : ℕ) → N .request c ≡ add q u → N .answer (N .reply c (refused 14)) ≡ refused 14
+  pub kept : (t : Slots) → recordsOf (N .handover t) ≡ recordsOf t

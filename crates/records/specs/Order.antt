@@ -1,5 +1,5 @@
--- Two orders of the same calls and ticks at a node, and what is equal in their runs (demand 3, second half; document 01, "Of the two
--- orders ..").
+-- Two orders of the same calls and ticks at a node, with switchovers anywhere in each, and what is equal in their runs (demand 3, second
+-- half; document 01, "Of the two orders .."; document 02, W-201).
 use Prim.Native.Nat.{ℕ, zero, suc, _<_}
 use mathlib.Core.Path.{_≡_}
 use mathlib.Core.Bool.{Bool, false, _&&_}
@@ -11,7 +11,7 @@ use Rattle.refusal.specs.Answer.{refused}
 use Rattle.records.specs.declared.Identity.{Identity}
 use Rattle.records.specs.declared.Record.{Record}
 use Rattle.records.specs.Slots.{Slots, identityOf, same, empty, count}
-use Rattle.records.specs.Node.{Node, Event, tick, call, Result, told, replied, run, final}
+use Rattle.records.specs.Node.{Node, Event, tick, call, switchover, Result, told, replied, taken-over, run, final}
 
 -- the ticks among the first i events
 abbrev pub ticks : {C : Type 0} → ℕ → List (Event C) → ℕ
@@ -19,15 +19,18 @@ ticks zero es = 0
 ticks (suc i) [] = 0
 ticks (suc i) (tick ∷ es) = suc (ticks i es)
 ticks (suc i) (call c ∷ es) = ticks i es
+ticks (suc i) (switchover ∷ es) = ticks i es
 
 -- "the count that each tick tells, first with first and so on"
 abbrev pub tickCounts : {R : Type 0} → List (Result R) → List ℕ
 tickCounts [] = []
 tickCounts (told n ∷ rs) = n ∷ tickCounts rs
 tickCounts (replied r ∷ rs) = tickCounts rs
+tickCounts (taken-over ∷ rs) = tickCounts rs
 
 -- "Of the two orders one is the other's calls and ticks rearranged": `to` and `from` say where each call of one stands in the other.
--- "two calls of one identity keep their order, and every call has as many ticks before it in both"
+-- "two calls of one identity keep their order, and every call has as many ticks before it in both". Switchovers stand in each of the
+-- two wherever they like.
 pub record Reordered (N : Node) (es fs : List (Event (N .Call))) : Type 0 where
   pub to : ℕ → ℕ
   pub from : ℕ → ℕ

@@ -8,7 +8,7 @@ use Rattle.residence.specs.declared.Residence.{Residence}
 use Rattle.residence.specs.declared.Residence.the-variants.{Units, InvalidStamp, TooLong}
 use Rattle.residence.specs.Residence.{residenceAnswer}
 use Rattle.records.specs.Slots.{Slots}
-use Rattle.records.specs.Node.{Lawful, Event, tick, call, Result, result, step, run, final}
+use Rattle.records.specs.Node.{Lawful, Event, tick, call, switchover, Result, result, step, run, final}
 use Rattle.records.proofs.Orders.{order-free}
 use Rattle.rules.specs.Rules.{Reply, rules}
 use Rattle.rules.proofs.Laws.{lawful}
@@ -28,17 +28,19 @@ runs : (t : Slots) (es : List (Event StampedCall)) → run stamped t es ≡ run 
 runs t [] = refl
 runs t (tick ∷ es) = ap (λ (l : List (Result Reply)). result rules t tick ∷ l) (runs (step rules t tick) es)
 runs t (call c ∷ es) = ap (λ (l : List (Result Reply)). result rules t (call (handed c)) ∷ l) (runs (step rules t (call (handed c))) es)
+runs t (switchover ∷ es) = ap (λ (l : List (Result Reply)). result rules t switchover ∷ l) (runs (step rules t switchover) es)
 
 finals : (t : Slots) (es : List (Event StampedCall)) → final stamped t es ≡ final rules t (map handedEvent es)
 finals t [] = refl
 finals t (tick ∷ es) = finals (step rules t tick) es
 finals t (call c ∷ es) = finals (step rules t (call (handed c))) es
+finals t (switchover ∷ es) = finals (step rules t switchover) es
 
 pub same-run : SameRun
 same-run t es = (runs t es, finals t es)
 
 stamped-lawful : Lawful stamped
-stamped-lawful = record { own = λ c. lawful .own (handed c); want = λ c. lawful .want (handed c) }
+stamped-lawful = record { own = λ c. lawful .own (handed c); want = λ c. lawful .want (handed c); kept = lawful .kept }
 
 pub stamped-order-does-not-matter : StampedOrderDoesNotMatter
 stamped-order-does-not-matter = order-free stamped stamped-lawful

@@ -14,7 +14,7 @@ use Rattle.stamp.specs.declared.Stamp.{Stamp}
 use Rattle.stamp.specs.Stamp.{residenceOf}
 use Rattle.records.specs.declared.Identity.{Identity}
 use Rattle.records.specs.Slots.{Slots}
-use Rattle.records.specs.Node.{Node, Event, tick, call, run, final}
+use Rattle.records.specs.Node.{Node, Event, tick, call, switchover, run, final}
 use Rattle.records.specs.Order.{OrderFree}
 use Rattle.rules.specs.Change.{padOf}
 use Rattle.rules.specs.Rules.{Mode, Call, Reply, Word, sync, kindOf, rules}
@@ -47,6 +47,7 @@ handed c = handedCall (c .mode) (c .message) (c .output) (c .entry) (c .exit)
 abbrev pub handedEvent : Event StampedCall → Event Call
 handedEvent tick = tick
 handedEvent (call c) = call (handed c)
+handedEvent switchover = switchover
 
 -- the node whose calls have stamps
 abbrev pub stamped : Node
@@ -60,6 +61,7 @@ stamped =
       commits = λ c. rules .commits (handed c);
       reply = λ c. rules .reply (handed c);
       answer = rules .answer;
+      handover = rules .handover;
     }
 
 -- a run of calls with stamps is the run of the same calls with their residences

@@ -19,7 +19,8 @@ use Rattle.records.specs.Node.{Request, add, collect, tableAnswer, asked, Lawfu
 use Rattle.records.specs.Ageing.{Waits}
 use Rattle.records.proofs.Orders.{order-free}
 use Rattle.records.proofs.Alone.{result-at, found-in-time, gone-at-third}
-use Rattle.rules.specs.Rules.{Kind, sync, followUp, timed, untimed, unreadable, kindIdentity, kindOf, Mode, oneStep, twoStep, Call, Reply, waiting, asItCame, keep, gather, keepRequest, requestBy, replyBy, rules}
+use Rattle.image.proofs.Returns.{switched-keeps}
+use Rattle.rules.specs.Rules.{Kind, sync, followUp, timed, untimed, unreadable, kindIdentity, kindOf, Mode, oneStep, twoStep, Call, Reply, waiting, asItCame, gather, keepRequest, requestBy, replyBy, rules}
 use Rattle.rules.specs.Demand3.{OrderDoesNotMatter, Waiting, AddedInTime, GoneAtThirdTick}
 use Rattle.rules.proofs.Calls.{reply-is, request-is, sync-set}
 
@@ -37,25 +38,35 @@ own twoStep r timed q e = e
 own twoStep r untimed q e = e
 own twoStep r (unreadable n) q e = e
 
--- and one that is told that no slot is empty answers 14
-want : (m : Mode) (c : Call) (k : Kind) (q : Identity) (u : ℕ) → requestBy m (c .residence) k ≡ add q u → replyBy m c (refused 14) k .answer ≡ refused 14
-want oneStep c k q u e = absurd (let z : _≡_ {A = ℕ} 0 1 = cc in omega arith)
-want twoStep c (sync p false) q u e = absurd (let z : _≡_ {A = ℕ} 0 1 = cc in omega arith)
-want twoStep c (sync p true) q u e = go (acceptedOf (c .residence)) e
+-- only a two-step node's Sync with S set asks for a record to be added, with the residence that was accepted
+pub asks-add :
+    (m : Mode) (r : Residence) (k : Kind) (q : Identity) (u : ℕ)
+    → requestBy m r k ≡ add q u
+    → (m ≡ twoStep) × (k ≡ sync q true) × (acceptedOf r ≡ value u)
+asks-add oneStep r k q u e = absurd (let z : _≡_ {A = ℕ} 0 1 = cc in omega arith)
+asks-add twoStep r (sync p false) q u e = absurd (let z : _≡_ {A = ℕ} 0 1 = cc in omega arith)
+asks-add twoStep r (sync p true) q u e = go (acceptedOf r) refl e
   where
-    go : (a : Answer ℕ) → keepRequest p a ≡ add q u → keep c a (refused 14) .answer ≡ refused 14
-    go (value v) h = refl
-    go (refused n) h = absurd (let z : _≡_ {A = ℕ} 0 1 = cc in omega arith)
-want twoStep c (followUp p) q u e = absurd (let z : _≡_ {A = ℕ} 0 1 = cc in omega arith)
-want twoStep c timed q u e = absurd (let z : _≡_ {A = ℕ} 0 1 = cc in omega arith)
-want twoStep c untimed q u e = absurd (let z : _≡_ {A = ℕ} 0 1 = cc in omega arith)
-want twoStep c (unreadable n) q u e = absurd (let z : _≡_ {A = ℕ} 0 1 = cc in omega arith)
+    go : (a : Answer ℕ) → acceptedOf r ≡ a → keepRequest p a ≡ add q u → (twoStep ≡ twoStep) × (sync p true ≡ sync q true) × (acceptedOf r ≡ value u)
+    go (value v) f h = (refl, cc, cc)
+    go (refused n) f h = absurd (let z : _≡_ {A = ℕ} 0 1 = cc in omega arith)
+asks-add twoStep r (followUp p) q u e = absurd (let z : _≡_ {A = ℕ} 0 1 = cc in omega arith)
+asks-add twoStep r timed q u e = absurd (let z : _≡_ {A = ℕ} 0 1 = cc in omega arith)
+asks-add twoStep r untimed q u e = absurd (let z : _≡_ {A = ℕ} 0 1 = cc in omega arith)
+asks-add twoStep r (unreadable n) q u e = absurd (let z : _≡_ {A = ℕ} 0 1 = cc in omega arith)
+
+-- and it answers 14 where it is told that no slot is empty
+want : (m : Mode) (c : Call) (k : Kind) (q : Identity) (u : ℕ) → requestBy m (c .residence) k ≡ add q u → replyBy m c (refused 14) k .answer ≡ refused 14
+want m c k q u e =
+    let a = asks-add m (c .residence) k q u e in
+    rw (a .0, a .1, a .2)
 
 pub lawful : Lawful rules
 lawful =
     record {
       own = λ c q e. own (c .mode) (c .residence) (kindOf (c .message)) q e;
       want = λ c q u e. want (c .mode) c (kindOf (c .message)) q u e;
+      kept = switched-keeps;
     }
 
 -- demand 3, second half

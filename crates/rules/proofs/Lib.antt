@@ -2,6 +2,7 @@ pub mod Bearing
 pub mod Changes
 pub mod Calls
 pub mod Laws
+pub mod Serves
 pub mod Crossing
 pub mod PathSums
 pub mod Samples

@@ -1,5 +1,5 @@
 -- The first half of demand 3 can be met: document 01's path of 1,500, 200 and 50 ns, with other calls, refused ones too, ticks,
--- rubbish and doubled records at its nodes.
+-- switchovers, rubbish and doubled records at its nodes.
 -- Assumes nothing.
 use Prim.Native.Nat.{ℕ, _*_, _<_}
 use mathlib.Core.Path.{_≡_, refl, sym, ap, _∙_}
@@ -9,12 +9,13 @@ use mathlib.Core.Logic.{_⊎_, inl, inr}
 use mathlib.Core.Option.{Option, none, some}
 use native.Mathlib.Omega.{arith}
 use lib.IntN.{pos, _+ℤ_}
-use lib.ListN.{drop, replicate, getElem?}
+use lib.ListN.{take, drop, replicate, getElem?}
 use Rattle.refusal.specs.Answer.{Answer, value, refused}
 use Rattle.residence.specs.declared.Residence.the-variants.{InvalidStamp}
 use Rattle.records.specs.declared.Identity.{Identity}
-use Rattle.records.specs.Slots.{Slots, same, holds, zeros, find}
-use Rattle.records.specs.Node.{Event, tick, call, Result, told, replied, run}
+use Rattle.records.specs.Slots.{Slots, same, holds, zeros, lowest, find}
+use Rattle.records.specs.Node.{Event, tick, call, switchover, Result, told, replied, taken-over, run, final}
+use Rattle.image.specs.Image.{sound, differ}
 use Rattle.rules.specs.Change.{padOf}
 use Rattle.rules.specs.Rules.{kindOf, kindIdentity, oneStep, twoStep, Call, Word, addToPad, updated, passed, created, waiting, added, rules}
 use Rattle.rules.specs.Path.{Stop, Apart, Every, SyncWay, FollowUpWay, FollowUps, born, residences}
@@ -47,9 +48,14 @@ ofType k = octetsOf mine false k (pos 5)
 abbrev ofVersionOne : List ℕ
 ofVersionOne = 0x11 ∷ drop 1 (aSync true 0)
 
--- every node's table: rubbish with the Sync's identity in an empty slot, two records of one other identity, a wait of 255
+-- the first and the second node's table: rubbish with the Sync's identity in an empty slot, two records of one other identity, a wait
+-- of 255; it cannot be written
 abbrev slots : Slots
 slots = recordOf mine 0 ∷ recordOf theirs 1 ∷ recordOf theirs 255 ∷ replicate 13 zeros
+
+-- the third node's: records of two other identities, and rubbish with the Sync's between them
+abbrev spread : Slots
+spread = recordOf theirs 2 ∷ recordOf mine 0 ∷ recordOf another 3 ∷ replicate 13 zeros
 
 -- the calls on the two
 abbrev syncFirst : Call
@@ -70,14 +76,15 @@ first =
       mode = oneStep;
       table = slots;
       events =
-          call (handedIn twoStep (octetsOf theirs true 0 (pos 0)) (stayed 9))
+          switchover
+          ∷ call (handedIn twoStep (octetsOf theirs true 0 (pos 0)) (stayed 9))
           ∷ tick
           ∷ call (handedIn oneStep ofVersionOne (stayed 9))
           ∷ call syncFirst
           ∷ call (handedIn oneStep (ofType 1) (stayed 9))
           ∷ tick
           ∷ [];
-      syncPlace = 3;
+      syncPlace = 4;
       followUpPlace = none;
     }
 
@@ -102,21 +109,23 @@ abbrev third : Stop
 third =
     record {
       mode = twoStep;
-      table = slots;
+      table = spread;
       events =
           tick
           ∷ call (handedIn twoStep ofVersionOne (stayed 9))
           ∷ call (handedIn twoStep (ofType 4) InvalidStamp)
           ∷ call syncThird
           ∷ tick
-          ∷ call (handedIn twoStep (octetsOf another true 8 (pos 0)) (stayed 9))
+          ∷ switchover
+          ∷ call (handedIn twoStep (octetsOf theirs true 8 (pos 0)) (stayed 9))
           ∷ tick
           ∷ call followUpThird
           ∷ call (handedIn oneStep (octetsOf theirs true 0 (pos 0)) (stayed 9))
           ∷ tick
+          ∷ switchover
           ∷ [];
       syncPlace = 3;
-      followUpPlace = some 7;
+      followUpPlace = some 8;
     }
 
 abbrev path : List Stop
@@ -126,20 +135,29 @@ path = first ∷ second ∷ third ∷ []
 abbrev at : Stop → List (Result (Answer Word))
 at n = answers (run rules (n .table) (n .events))
 
-at-first : at first ≡ replied (refused 13) ∷ told 1 ∷ replied (refused 4) ∷ replied (value updated) ∷ replied (value updated) ∷ told 0 ∷ []
-unfolding same holds
+at-first : at first ≡ taken-over ∷ replied (refused 13) ∷ told 1 ∷ replied (refused 4) ∷ replied (value updated) ∷ replied (value updated) ∷ told 0 ∷ []
+unfolding same holds sound differ
 at-first = refl
 
 at-second : at second ≡ replied (refused 16) ∷ replied (refused 9) ∷ replied (value created) ∷ replied (value added) ∷ told 0 ∷ replied (value passed) ∷ []
-unfolding same holds
+unfolding same holds sound differ
 at-second = refl
 
 at-third :
     at third
-    ≡ told 1 ∷ replied (refused 4) ∷ replied (value passed) ∷ replied (value waiting) ∷ told 0 ∷ replied (refused 15) ∷ told 0
-    ∷ replied (value added) ∷ replied (value updated) ∷ told 0 ∷ []
-unfolding same holds
+    ≡ told 0 ∷ replied (refused 4) ∷ replied (value passed) ∷ replied (value waiting) ∷ told 1 ∷ taken-over ∷ replied (refused 15)
+    ∷ told 1 ∷ replied (value added) ∷ replied (value updated) ∷ told 0 ∷ taken-over ∷ []
+unfolding same holds sound differ
 at-third = refl
+
+-- the first switchover there moves the Sync's record from slot 1 to slot 0
+slot-before : lowest (holds mine) (final rules spread (take 5 (third .events))) ≡ 1
+unfolding same holds sound differ
+slot-before = refl
+
+slot-behind : lowest (holds mine) (final rules spread (take 6 (third .events))) ≡ 0
+unfolding same holds sound differ
+slot-behind = refl
 
 -- the octets are document 01's
 octets :
@@ -153,18 +171,18 @@ abbrev left : List ℕ
 left = aFollowUp 13107200 ++ replicate 4 0
 
 sync-way : SyncWay (aSync false 0) path (aSync true 98304000)
-unfolding same holds
+unfolding same holds sound differ
 sync-way =
-    SyncWay.cross (visit first 3 syncFirst updated (aSync false 98304000) spare refl refl refl)
+    SyncWay.cross (visit first 4 syncFirst updated (aSync false 98304000) spare refl refl refl)
     (SyncWay.cross (visit second 2 syncSecond created (aSync true 98304000) left refl refl refl)
     (SyncWay.cross (visit third 3 syncThird waiting (aSync true 98304000) spare refl refl refl) SyncWay.done))
 
 follow-up-way : FollowUpWay (aFollowUp 13107200) (third ∷ []) (aFollowUp 16384000)
-unfolding same holds
-follow-up-way = FollowUpWay.cross 7 refl (visit third 7 followUpThird added (aFollowUp 16384000) spare refl refl refl) FollowUpWay.done
+unfolding same holds sound differ
+follow-up-way = FollowUpWay.cross 8 refl (visit third 8 followUpThird added (aFollowUp 16384000) spare refl refl refl) FollowUpWay.done
 
 follow-ups : FollowUps mine false path (pos 0) (padOf (aFollowUp 16384000))
-unfolding same holds
+unfolding same holds sound differ
 follow-ups =
     born (first ∷ []) second {r = after created (aSync true 98304000) left} {last = aFollowUp 16384000} refl refl
     (List·Permᴰ·cons refl List·Permᴰ·nil) follow-up-way
@@ -180,20 +198,22 @@ other f e = absurd (true≢false (sym (ap isMine e) ∙ f))
 
 abbrev Placed : Stop → ℕ → Event Call → Type 0
 Placed n k tick = Unit {0}
+Placed n k switchover = Unit {0}
 Placed n k (call c) = kindIdentity (kindOf (c .message)) ≡ some mine → (k ≡ n .syncPlace) ⊎ (some k ≡ n .followUpPlace)
 
 apart : (n : Stop) → find mine (n .table) ≡ none → Each (Placed n) (n .events) → Apart mine n
 apart n free h = record { free = free; others = λ k c. each (Placed n) (n .events) h k (call c) }
 
 third-apart : Apart mine third
-unfolding same holds
+unfolding same holds sound differ
 third-apart =
-    apart third refl (tt, (other refl, (other refl, (λ e. inl refl, (tt, (other refl, (tt, (λ e. inr refl, (other refl, (tt, tt))))))))))
+    apart third refl
+    (tt, (other refl, (other refl, (λ e. inl refl, (tt, (tt, (other refl, (tt, (λ e. inr refl, (other refl, (tt, (tt, tt))))))))))))
 
 all-apart : Every (Apart mine) path
-unfolding same holds
+unfolding same holds sound differ
 all-apart = (
-  apart first refl (other refl, (tt, (other refl, (λ e. inl refl, (other refl, (tt, tt)))))),
+  apart first refl (tt, (other refl, (tt, (other refl, (λ e. inl refl, (other refl, (tt, tt))))))),
   (
     apart second refl (other refl, (other refl, (λ e. inl refl, (other refl, (tt, (other refl, tt)))))),
     (third-apart, tt),
@@ -213,9 +233,9 @@ stays = (refl, refl)
 in-numbers : pos 98304000 +ℤ pos 16384000 ≡ pos 0 +ℤ pos 0 +ℤ pos 114688000
 in-numbers = sum
 
--- at the third node the Follow_Up comes two ticks after the Sync, in time
-waits : Waiting slots (third .events) mine (50 * 65536) 3 7 followUpThird
-unfolding same holds
+-- at the third node the Follow_Up comes two ticks and a switchover after the Sync, in time
+waits : Waiting spread (third .events) mine (50 * 65536) 3 8 followUpThird
+unfolding same holds sound differ
 waits =
     record {
       handed = syncThird;
@@ -231,9 +251,9 @@ waits =
       between = λ k c a b e i. neither k a b (third-apart .others k c e i);
     }
   where
-    neither : (k : ℕ) → 3 < k → k < 7 → (k ≡ 3) ⊎ (some k ≡ some 7) → ⊥
+    neither : (k : ℕ) → 3 < k → k < 8 → (k ≡ 3) ⊎ (some k ≡ some 8) → ⊥
     neither k a b (inl e) = omega arith
-    neither k a b (inr e) = let f : k ≡ 7 = cc in omega arith
+    neither k a b (inr e) = let f : k ≡ 8 = cc in omega arith
 
-in-time : getElem? (run rules slots (third .events)) 7 ≡ some (replied (addToPad followUpThird added (50 * 65536)))
-in-time = added-in-time slots (third .events) mine (50 * 65536) 3 7 followUpThird waits (omega arith)
+in-time : getElem? (run rules spread (third .events)) 8 ≡ some (replied (addToPad followUpThird added (50 * 65536)))
+in-time = added-in-time spread (third .events) mine (50 * 65536) 3 8 followUpThird waits (omega arith)

@@ -15,7 +15,7 @@ use Rattle.residence.specs.declared.Residence.the-variants.{Units}
 use Rattle.message.specs.Write.{ptpOctets}
 use Rattle.records.specs.declared.Identity.{Identity}
 use Rattle.records.specs.declared.Record.{Record}
-use Rattle.records.specs.Node.{call, Result, told, replied}
+use Rattle.records.specs.Node.{call, Result, told, replied, taken-over}
 use Rattle.rules.specs.Rules.{Mode, Call, Word, Reply}
 use Rattle.rules.specs.Path.{Stop, ReplyAt, Visit}
 
@@ -52,6 +52,7 @@ recordOf q w = record { clock = q .clock; port = q .port; sequence = q .sequence
 abbrev answered : Result Reply → Result (Answer Word)
 answered (told n) = told n
 answered (replied r) = replied (r .answer)
+answered taken-over = taken-over
 
 abbrev pub answers : List (Result Reply) → List (Result (Answer Word))
 answers rs = map answered rs

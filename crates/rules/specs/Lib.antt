@@ -2,3 +2,4 @@ pub mod Change
 pub mod Rules
 pub mod Path
 pub mod Demand3
+pub mod Service

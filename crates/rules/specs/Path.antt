@@ -11,12 +11,12 @@ use Rattle.refusal.specs.Answer.{Answer, value, refused}
 use Rattle.residence.specs.Residence.{acceptedOf}
 use Rattle.records.specs.declared.Identity.{Identity}
 use Rattle.records.specs.Slots.{Slots, find}
-use Rattle.records.specs.Node.{Event, tick, call, replied, run}
+use Rattle.records.specs.Node.{Event, tick, call, switchover, replied, run}
 use Rattle.rules.specs.Change.{padOf}
 use Rattle.rules.specs.Rules.{followUp, kindOf, kindIdentity, Mode, Call, created, Reply, rules}
 
--- A node of the path: "each in one fixed mode with a table of its own", its list of calls and ticks, and the places in it of the
--- Sync's call and, where the Follow_Up crosses this node, of the Follow_Up's. (At a node that it does not cross nothing is asked
+-- A node of the path: "each in one fixed mode with a table of its own", its list of calls, ticks and switchovers, and the places in
+-- it of the Sync's call and, where the Follow_Up crosses this node, of the Follow_Up's. (At a node that it does not cross nothing is asked
 -- of that place.)
 pub record Stop : Type 0 where
   pub mode : Mode
@@ -101,6 +101,7 @@ unitsOf (refused n) = 0
 abbrev pub unitsIn : Option (Event Call) → ℕ
 unitsIn none = 0
 unitsIn (some tick) = 0
+unitsIn (some switchover) = 0
 unitsIn (some (call c)) = unitsOf (acceptedOf (c .residence))
 
 abbrev pub residenceAt : Stop → ℕ

@@ -15,6 +15,7 @@ use Rattle.scratch_pad.specs.Sum.{inRange, sumOf}
 use Rattle.records.specs.declared.Identity.{Identity}
 use Rattle.records.specs.Slots.{Slots}
 use Rattle.records.specs.Node.{Node, Request, nothing, add, collect, tableAnswer, tableAfter}
+use Rattle.image.specs.Image.{switched}
 use Rattle.rules.specs.Change.{padOf, withPad, withTwoStep, followUpOf}
 
 -- "Sync is 0, .. Follow_Up 8": what a node makes of a message as read
@@ -163,7 +164,8 @@ kindIdentity timed = none
 kindIdentity untimed = none
 kindIdentity (unreadable n) = none
 
--- document 01's node: a record is taken only if the sum fits, so that 11 leaves it in its slot
+-- document 01's node: a record is taken only if the sum fits, so that 11 leaves it in its slot; a switchover hands on the table as
+-- written and loaded (document 02, W-201)
 abbrev pub rules : Node
 rules =
     record {
@@ -175,6 +177,7 @@ rules =
       commits = λ c u. inRange (padOf (c .message) +ℤ pos u);
       reply = λ c table. replyBy (c .mode) c table (kindOf (c .message));
       answer = λ r. r .answer;
+      handover = switched;
     }
 
 -- a call's reply, and the table afterwards: what the runs of demand 3 are made of, and what the calls' contracts cite

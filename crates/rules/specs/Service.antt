@@ -1,0 +1,28 @@
+-- A switchover is never refused in service (document 02, W-201): what node calls, ticks and switchovers make of a new or a loaded table
+-- can always be written.
+use Prim.Native.Nat.{ℕ, _<_}
+use mathlib.Core.Path.{_≡_}
+use mathlib.Core.List.{List}
+use mathlib.Core.Option.{some}
+use lib.ListN.{getD, getElem?, replicate}
+use Rattle.refusal.specs.Answer.{value}
+use Rattle.records.specs.Slots.{Slots, zeros}
+use Rattle.records.specs.Node.{Event, call, final}
+use Rattle.image.specs.Image.{imageOf, loadOf}
+use Rattle.rules.specs.Rules.{Call, rules}
+
+-- a table that a card starts with
+pub data Started : Slots → Type 0 where
+  new : Started (replicate 16 zeros)
+  loaded : (s : List ℕ) (t : Slots) → loadOf s ≡ value t → Started t
+
+-- the messages of a list are octets, as every message is that the code is handed
+abbrev pub InOctets : List (Event Call) → Type 0
+InOctets es = (k : ℕ) (c : Call) → getElem? es k ≡ some (call c) → (i : ℕ) → getD (c .message) i 0 < 256
+
+abbrev pub AlwaysWritten : Type 0
+AlwaysWritten =
+    (t : Slots) (es : List (Event Call))
+    → Started t
+    → InOctets es
+    → (s : List ℕ) × (imageOf (final rules t es) ≡ value s)
