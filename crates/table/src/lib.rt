@@ -1,5 +1,7 @@
 // The table of waiting records, 16 slots by value (document 01: "The table is handed in and handed
 // back by each operation"). Every table value is good input.
+use image::Loading;
+use image::Written;
 use records::Identity;
 use records::Record;
 ghost use mathlib.Core.Path.{_≡_};
@@ -7,7 +9,9 @@ ghost use lib.ListN.{replicate};
 ghost use Rattle.records.specs.Slots.{empty, holds, zeros, lowest, aged};
 ghost use Rattle.records.specs.Node.{tableAnswer};
 ghost use Rattle.records.specs.Node.{collect as collect·request};
-ghost use Rattle.table.specs.Table.{addOf, collectOf, tickOf, foundAnswer, entered, taken, counted};
+ghost use Rattle.image.specs.Image.{writeOf};
+ghost use Rattle.image.specs.Answers.{written};
+ghost use Rattle.table.specs.Table.{addOf, collectOf, tickOf, foundAnswer, entered, taken, counted, loadInto, reloaded};
 
 pub struct Table {
     pub slots: [Record; 16],
@@ -41,6 +45,12 @@ pub struct Taken {
 pub struct Ticked {
     pub table: Table,
     pub emptied: u8,
+}
+
+// The table after an image was loaded, and the answer.
+pub struct Reloaded {
+    pub table: Table,
+    pub answer: Loading,
 }
 
 // The slot holds a record with this identity.
@@ -194,5 +204,40 @@ impl Table {
         }
         let table = Table { slots };
         Ticked { table, emptied }
+    }
+
+    // Writes the image of this table at the start of the output, which stays as it came beyond the
+    // size and on refusal. Only records count. Refusal 22 where they could not be loaded, then 12.
+    pub fn write(self, out: &mut [u8]) -> Written
+        ensures { λ r. ⌜ written r (now (out .exit)) ≡ writeOf (self .slots) (now (out .entry)) ⌝ }
+    {
+        let slots = self.slots;
+        image::write(slots, out)
+    }
+
+    // The table that an image loads: its records from slot 0 on, in its order, and zeros. Refusal
+    // 22 for any other octets, with the table that came.
+    pub fn load(self, octets: &[u8]) -> Reloaded
+        ensures { λ r. ⌜ reloaded r ≡ loadInto (now (octets .entry)) (self .slots) ⌝ }
+    {
+        let loaded = image::load(octets);
+        let slots = loaded.slots;
+        let answer = loaded.answer;
+        match answer {
+            Loading::Replaced => {
+                let table = Table { slots };
+                Reloaded {
+                    table,
+                    answer: Loading::Replaced,
+                }
+            }
+            Loading::Refused(n) => {
+                let table = self;
+                Reloaded {
+                    table,
+                    answer: Loading::Refused(n),
+                }
+            }
+        }
     }
 }

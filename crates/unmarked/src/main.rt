@@ -1,5 +1,5 @@
-// Runs the cases of document 01 that are not marked for proof, with more of their kind, and prints
-// a line for each.
+// Runs the cases of document 01 that are not marked for proof, with more of their kind and of those
+// of document 02, and prints a line for each.
 mod additions;
 mod headers;
 mod joins;
@@ -8,6 +8,7 @@ mod lists;
 mod messages;
 mod print;
 mod residences;
+mod switchovers;
 mod waits;
 
 fn main() {
@@ -16,6 +17,7 @@ fn main() {
     limits::run();
     additions::run();
     waits::run();
+    switchovers::run();
     joins::run();
     headers::run();
 }

@@ -12,7 +12,7 @@ use residence::Residence;
 use table::Table;
 
 // The identity of a case: the port and sequence alike.
-fn waiting_record(identity: u16, residence: u64, wait: u8) -> Record {
+pub(crate) fn record(identity: u16, residence: u64, wait: u8) -> Record {
     Record {
         clock: identity as u64,
         port: identity,
@@ -50,7 +50,7 @@ fn hand(table: Table, fields: Fields, residence: Residence) -> Table {
     done.table
 }
 
-fn sync(table: Table, identity: u16) -> Table {
+pub(crate) fn sync(table: Table, identity: u16) -> Table {
     print::number(b", Sync ", identity as u64);
     print::text(b" ");
     hand(
@@ -61,7 +61,7 @@ fn sync(table: Table, identity: u16) -> Table {
 }
 
 // A Follow_Up, whose residence is not looked at.
-fn follow_up(table: Table, message_type: u16, identity: u16) -> Table {
+pub(crate) fn follow_up(table: Table, message_type: u16, identity: u16) -> Table {
     print::number(b", Follow_Up ", identity as u64);
     print::text(b" ");
     hand(
@@ -71,7 +71,7 @@ fn follow_up(table: Table, message_type: u16, identity: u16) -> Table {
     )
 }
 
-fn tick(table: Table) -> Table {
+pub(crate) fn tick(table: Table) -> Table {
     let ticked = table.tick();
     print::number(b", tick ", ticked.emptied as u64);
     ticked.table
@@ -80,8 +80,8 @@ fn tick(table: Table) -> Table {
 // Sixteen records of identity 1, the lowest with another residence.
 fn full() {
     print::text(b"full table");
-    let mut slots = [waiting_record(1, 7, 3); 16];
-    slots[0] = waiting_record(1, 5, 3);
+    let mut slots = [record(1, 7, 3); 16];
+    slots[0] = record(1, 5, 3);
     let a = sync(Table { slots }, 2);
     let b = sync(a, 1);
     let c = follow_up(b, types::PTP_IPV4, 1);
@@ -99,7 +99,7 @@ fn none() {
     print::text(b"\nrubbish");
     let c = follow_up(
         Table {
-            slots: [waiting_record(1, 5, 0); 16],
+            slots: [record(1, 5, 0); 16],
         },
         types::PTP_IPV4,
         1,

@@ -2,6 +2,7 @@
 // two octets, the size of its body; and the body. A case of an operation that is not known prints
 // nothing.
 mod format;
+mod images;
 mod joins;
 mod lists;
 mod one_step;
@@ -23,6 +24,8 @@ fn run(operation: u8, body: &[u8]) {
         7 => joins::run(body),
         8 => lists::run_count(body),
         9 => lists::run_entry(body),
+        10 => images::run_write(body),
+        11 => images::run_load(body),
         _ => {}
     }
 }

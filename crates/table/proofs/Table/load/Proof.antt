@@ -1,0 +1,33 @@
+-- `Table::load` meets its contract: the image's slots where it loads, and the slots that came where it is refused.
+-- Assumes nothing.
+use mathlib.Core.Path.{sym, ap, _∙_}
+use borrow.Author.Needs.{needs}
+use Rattle.image.specs.declared.loader.Loading.{Loading}
+use Rattle.image.specs.Answers.{loadedBy}
+use Rattle.table.specs.Table.{loadBy}
+use Rattle.table.proofs.Table.load.Statement.{statement}
+use Rattle.table.proofs.Table.load.Tie as tie
+
+load-requires : tie.Need-load-requires
+load-requires c κs = search needs
+
+enum-told : tie.Need-enum-told
+enum-told c = search needs
+
+enum-known-answer : tie.Need-enum-known-answer
+enum-known-answer c = search needs
+
+returns : tie.Need-returns
+returns c =
+    let p = c .before .before .before in
+    ap (loadBy (p .before .before .args .self .slots))
+    (ap (λ (a : Loading). loadedBy a (p .load .result .slots)) (sym (c .enum-told .given .1)) ∙ p .load .ensures)
+
+returns-2 : tie.Need-returns-2
+returns-2 c =
+    let p = c .before .before .before .before in
+    ap (loadBy (p .before .before .args .self .slots))
+    (ap (λ (a : Loading). loadedBy a (p .load .result .slots)) (sym (c .before .answer .given .1)) ∙ p .load .ensures)
+
+pub load-spec : {M : Type 1} → statement M
+load-spec = tie.close (tie.spec load-requires enum-told enum-known-answer returns returns-2)

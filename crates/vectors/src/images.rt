@@ -1,0 +1,36 @@
+// Operations 10 and 11: the image of a table, written and loaded.
+use crate::format;
+use crate::tables;
+use image::Loading;
+use image::Written;
+use table::Table;
+
+// Where the room stands in the body, behind the table.
+const ROOM: usize = 336;
+
+fn write_in(out: &mut [u8], body: &[u8]) {
+    format::text(b"image-write");
+    match tables::read(body).write(out) {
+        Written::Size(n) => format::number(b" size ", n as u64),
+        Written::Refused(n) => format::refused(n),
+    }
+    format::hex(b" out ", out);
+    format::text(b"\n");
+}
+
+pub(crate) fn run_write(body: &[u8]) {
+    let mut out = format::output();
+    let room = octets::read16(body, ROOM) as usize;
+    write_in(&mut out[0..room], body);
+}
+
+pub(crate) fn run_load(body: &[u8]) {
+    let loaded = Table::new().load(format::counted(body));
+    let answer = loaded.answer;
+    format::text(b"image-load");
+    match answer {
+        Loading::Replaced => tables::print(loaded.table),
+        Loading::Refused(n) => format::refused(n),
+    }
+    format::text(b"\n");
+}
