@@ -2,10 +2,10 @@
 -- Assumes nothing.
 use Prim.Native.Nat.{ℕ, _+_, _-_, _%_, _<_, _≤_, _^_}
 use mathlib.Core.Path.{_≡_, refl, sym, ap, _∙_}
-use mathlib.Core.Bool.{Bool, true, false, cond, _&&_}
+use mathlib.Core.Bool.{Bool, true, false, not, cond, _&&_}
 use mathlib.Core.List.{List, _++_}
 use native.Mathlib.Omega.{arith}
-use borrow.Author.Tests.{eq-eqb, ne-eqb, eqb-false, ltb-false}
+use borrow.Author.Tests.{eq-eqb, ne-eqb, eqb-false, ltb-false, not-false}
 use lib.Dec.{ltb, leb, eqb}
 use lib.ListN.{length, take, drop}
 use lib.Seq.{take-at}
@@ -18,11 +18,11 @@ use Rattle.refusal.specs.Answer.{Answer, value, andThen}
 use Rattle.message.specs.declared.fields.Header.{Header}
 use Rattle.message.specs.declared.fields.SubTlv.{SubTlv}
 use Rattle.message.specs.declared.fields.Fields.{Fields}
-use Rattle.message.specs.Read.{Message, plain, ptp, isType, subTlv, header, headerOf, subTlvOf, messageOf, readOf, carriedBy, carriedOf}
-use Rattle.message.specs.Write.{isPtp, gAchHeader, headerOctets, flagOctets, subTlvOctets, ptpOctets, plainOctets, messageOctets, outputBy, writeOf}
+use Rattle.message.specs.Read.{Message, plain, ptp, isType, isSubTlvLength, subTlv, header, headerOf, subTlvOf, messageOf, readOf, carriedBy, carriedOf}
+use Rattle.message.specs.Write.{isPtp, gAchHeader, headerOctets, subTlvHeader, flagOctets, subTlvOctets, ptpOctets, plainOctets, messageOctets, outputBy, writeOf}
 use Rattle.message.specs.RoundTrip.{Sized, reported, RoundTrip}
 use Rattle.message.proofs.Sound.{header-taken, sub-tlv-taken}
-use Rattle.message.proofs.Accepted.{Accepted, accepted, known-types, ptp-types, plain-types, ptp-size, plain-size}
+use Rattle.message.proofs.Accepted.{Accepted, accepted, known-types, ptp-types, plain-types, sub-tlv-lengths, ptp-size, plain-size}
 
 module _ (h : Header) (v : List ℕ) (fits : SFits w64 (h .pad)) (known : isType (h .«message_type») ≡ true) (short : length v ≤ 2032) where
   header-pad : signedNumber (headerOctets h (length v) ++ v) 4 ≡ h .pad
@@ -56,17 +56,21 @@ flag : (s : Bool) → leb 128 (cond s 128 0) ≡ s
 flag true = refl
 flag false = refl
 
-module _ (t : SubTlv) (v : List ℕ) (kind : t .«ptp_type» ≤ 15) (clock : t .clock < 2 ^ 64) (port : t .port < 2 ^ 16) (sequence : t .sequence < 2 ^ 16) where
+module _ (t : SubTlv) (v : List ℕ) (stated : isSubTlvLength (t .length) ≡ true) (kind : t .«ptp_type» ≤ 15) (clock : t .clock < 2 ^ 64) (port : t .port < 2 ^ 16) (sequence : t .sequence < 2 ^ 16) where
+  sub-tlv-length : number 2 (subTlvOctets t ++ v) 2 ≡ t .length
+  sub-tlv-length =
+      number-octets 2 (t .length) 2 (octets 2 1) (flagOctets (t .«two_step») (t .«ptp_type») ++ octets 8 (t .clock) ++ octets 2 (t .port) ++ octets 2 (t .sequence) ++ v) refl (omega (arith, sub-tlv-lengths (t .length) stated))
+
   sub-tlv-clock : number 8 (subTlvOctets t ++ v) 8 ≡ t .clock
-  sub-tlv-clock = number-octets 8 (t .clock) 8 (octets 2 1 ++ octets 2 20 ++ flagOctets (t .«two_step») (t .«ptp_type»)) (octets 2 (t .port) ++ octets 2 (t .sequence) ++ v) refl clock
+  sub-tlv-clock = number-octets 8 (t .clock) 8 (subTlvHeader (t .length) ++ flagOctets (t .«two_step») (t .«ptp_type»)) (octets 2 (t .port) ++ octets 2 (t .sequence) ++ v) refl clock
 
   sub-tlv-port : number 2 (subTlvOctets t ++ v) 16 ≡ t .port
   sub-tlv-port =
-      number-octets 2 (t .port) 16 (octets 2 1 ++ octets 2 20 ++ flagOctets (t .«two_step») (t .«ptp_type») ++ octets 8 (t .clock)) (octets 2 (t .sequence) ++ v) refl port
+      number-octets 2 (t .port) 16 (subTlvHeader (t .length) ++ flagOctets (t .«two_step») (t .«ptp_type») ++ octets 8 (t .clock)) (octets 2 (t .sequence) ++ v) refl port
 
   sub-tlv-sequence : number 2 (subTlvOctets t ++ v) 18 ≡ t .sequence
   sub-tlv-sequence =
-      number-octets 2 (t .sequence) 18 (octets 2 1 ++ octets 2 20 ++ flagOctets (t .«two_step») (t .«ptp_type») ++ octets 8 (t .clock) ++ octets 2 (t .port)) v refl sequence
+      number-octets 2 (t .sequence) 18 (subTlvHeader (t .length) ++ flagOctets (t .«two_step») (t .«ptp_type») ++ octets 8 (t .clock) ++ octets 2 (t .port)) v refl sequence
 
   sub-tlv-kind : t .«ptp_type» % 16 ≡ t .«ptp_type»
   sub-tlv-kind = omega arith
@@ -74,11 +78,11 @@ module _ (t : SubTlv) (v : List ℕ) (kind : t .«ptp_type» ≤ 15) (clock : t 
   pub sub-tlv-read : subTlvOf (subTlvOctets t ++ v) ≡ value t
   sub-tlv-read =
       let same : subTlv (subTlvOctets t ++ v) ≡ t =
-      λ i. record { «two_step» = flag (t .«two_step») i; «ptp_type» = sub-tlv-kind i; clock = sub-tlv-clock i; port = sub-tlv-port i; sequence = sub-tlv-sequence i } in
-      sub-tlv-taken (subTlvOctets t ++ v) (omega arith) refl ∙ ap value same
+      λ i. record { length = sub-tlv-length i; «two_step» = flag (t .«two_step») i; «ptp_type» = sub-tlv-kind i; clock = sub-tlv-clock i; port = sub-tlv-port i; sequence = sub-tlv-sequence i } in
+      sub-tlv-taken (subTlvOctets t ++ v) (omega arith) (ap isSubTlvLength sub-tlv-length ∙ stated) ∙ ap value same
 
 -- whole messages
-module _ (f : Fields) (v : List ℕ) (room n : ℕ) (w : Sized f) (a : Accepted (f .header .«message_type») (f .«sub_tlv» .«ptp_type») (length v) room n) where
+module _ (f : Fields) (v : List ℕ) (room n : ℕ) (w : Sized f) (a : Accepted (f .header .«message_type») (f .«sub_tlv») (length v) room n) where
   ptp-read : isPtp (f .header .«message_type») ≡ true → readOf (ptpOctets f v) ≡ value (ptp (f .header) (f .«sub_tlv»))
   ptp-read p =
       let h = f .header in
@@ -87,9 +91,10 @@ module _ (f : Fields) (v : List ℕ) (room n : ℕ) (w : Sized f) (a : Accepted 
       let r = ptp-types ty p in
       let z = ptp-size a p in
       let k : t .«ptp_type» ≤ 15 = ltb-false 15 (t .«ptp_type») (ap (λ (b : Bool). b && ltb 15 (t .«ptp_type»)) (sym p) ∙ a .kind) in
+      let l : isSubTlvLength (t .length) ≡ true = not-false (isSubTlvLength (t .length)) (ap (λ (b : Bool). b && not (isSubTlvLength (t .length))) (sym p) ∙ a .stated) in
       let size : 20 + length v ≡ length (subTlvOctets t ++ v) = omega arith in
       let e = header-read h (subTlvOctets t ++ v) (w .pad) (a .known) (omega arith) in
-      let g = sub-tlv-read t v k (w .clock) (w .port) (w .sequence) in
+      let g = sub-tlv-read t v l k (w .clock) (w .port) (w .sequence) in
       ap (λ (k : ℕ). readOf (headerOctets h k ++ (subTlvOctets t ++ v))) size
       ∙ ap (λ (x : Answer Header). andThen x (λ y. messageOf y (subTlvOctets t ++ v))) e
       ∙ simp (ne-eqb ty 1 (λ q. omega arith), ne-eqb ty 5 (λ q. omega arith), g)
@@ -118,8 +123,8 @@ module _ (f : Fields) (v : List ℕ) (room n : ℕ) (w : Sized f) (a : Accepted 
 pub round-trip : RoundTrip
 round-trip f v o n w e = go (isPtp (f .header .«message_type»)) refl
   where
-    k : Accepted (f .header .«message_type») (f .«sub_tlv» .«ptp_type») (length v) (length o) n
-    k = accepted (f .header .«message_type») (f .«sub_tlv» .«ptp_type») (length v) (length o) n e
+    k : Accepted (f .header .«message_type») (f .«sub_tlv») (length v) (length o) n
+    k = accepted (f .header .«message_type») (f .«sub_tlv») (length v) (length o) n e
 
     Claim : List ℕ → Message → Type 0
     Claim m r = (readOf m ≡ value r) × (carriedOf m ≡ v)

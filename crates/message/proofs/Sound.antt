@@ -2,17 +2,18 @@
 -- Assumes nothing.
 use Prim.Native.Nat.{ℕ, _-_, _≤_}
 use mathlib.Core.Path.{_≡_, refl, sym, ap, _∙_}
-use mathlib.Core.Bool.{Bool, true, false, not, cond}
+use mathlib.Core.Bool.{Bool, true, false, not, cond, _&&_, false≢true}
 use mathlib.Core.List.{List}
 use native.Mathlib.Omega.{arith}
 use borrow.Author.Tests.{le-ltb, eq-eqb, ne-eqb, ltb-false, eqb-true, eqb-false, not-false}
 use lib.Dec.{ltb, eqb}
 use lib.ListN.{length, length-drop}
+use Rattle.octets.specs.Octets.{number}
 use Rattle.refusal.specs.Answer.{Answer, value, refused, refuse, andThen}
 use Rattle.refusal.proofs.Answers.{not-both, passes}
 use Rattle.message.specs.declared.fields.Header.{Header}
 use Rattle.message.specs.declared.fields.SubTlv.{SubTlv}
-use Rattle.message.specs.Read.{plain, ptp, isRtm, version, lengthField, messageValue, isType, isSubTlv, subTlv, header, headerOf, subTlvOf, messageOf, readOf}
+use Rattle.message.specs.Read.{plain, ptp, isRtm, version, lengthField, messageValue, isType, isSubTlvLength, isSubTlv, subTlv, header, headerOf, subTlvOf, messageOf, readOf}
 
 -- a message whose header has nothing to refuse
 pub record SoundHeader (s : List ℕ) : Type 0 where
@@ -54,6 +55,15 @@ header-sound s h e =
   where
     out : {g h : Header} → value g ≡ value h → g ≡ h
     out q = cc
+
+-- two tests that both hold
+pub both : (a b : Bool) → (a && b) ≡ true → (a ≡ true) × (b ≡ true)
+both true b e = (refl, e)
+both false b e = absurd (false≢true e)
+
+-- the length that an accepted sub-TLV states
+pub stated-length : (v : List ℕ) → isSubTlv v ≡ true → isSubTlvLength (number 2 v 2) ≡ true
+stated-length v e = both (eqb (number 2 v 0) 1) (isSubTlvLength (number 2 v 2)) e .1
 
 -- a Value whose sub-TLV has nothing to refuse
 pub sub-tlv-taken : (v : List ℕ) → 20 ≤ length v → isSubTlv v ≡ true → subTlvOf v ≡ value (subTlv v)

@@ -1,6 +1,6 @@
 -- The RTM message as it is read (document 01, The RTM message; Refusal numbers 1 to 8).
 use Prim.Native.Nat.{ℕ, _-_, _/_, _%_}
-use mathlib.Core.Bool.{Bool, cond, not, _&&_}
+use mathlib.Core.Bool.{Bool, cond, not, _&&_, _||_}
 use mathlib.Core.List.{List, []}
 use lib.Dec.{ltb, leb, eqb}
 use lib.ListN.{length, getD, drop}
@@ -49,15 +49,21 @@ headerOf s =
     (refuse 6 (not (isType (header s .«message_type»)))
     (value (header s)))))))
 
--- The sub-TLV's octets, counted from the Value's first, 16: "16, 17: sub-TLV type 1", "18, 19: 20"
-abbrev pub isSubTlv : List ℕ → Bool
-isSubTlv v = eqb (number 2 v 0) 1 && eqb (number 2 v 2) 20
+-- "accepts 16 as well as 20" (document 02, W-202)
+abbrev pub isSubTlvLength : ℕ → Bool
+isSubTlvLength n = eqb n 16 || eqb n 20
 
+-- The sub-TLV's octets, counted from the Value's first, 16: "16, 17: sub-TLV type 1", "18, 19": its length
+abbrev pub isSubTlv : List ℕ → Bool
+isSubTlv v = eqb (number 2 v 0) 1 && isSubTlvLength (number 2 v 2)
+
+-- "and reports which it found" (W-202);
 -- "20 to 23: S in the top bit of octet 20; 27 reserved bits, .. ignored when read; PTPType in the low half of octet 23";
 -- "24 to 33: Port ID"; "34, 35: Sequence ID"
 abbrev pub subTlv : List ℕ → SubTlv
 subTlv v =
     record {
+      length = number 2 v 2;
       «two_step» = leb 128 (getD v 4 0);
       «ptp_type» = getD v 7 0 % 16;
       clock = number 8 v 8;
@@ -82,12 +88,16 @@ messageOf h v =
 abbrev pub readOf : List ℕ → Answer Message
 readOf s = andThen (headerOf s) (λ h. messageOf h (messageValue s))
 
--- "the carried packet, perhaps empty, starts at octet 36"; "for type 5 the whole Value" (that of type 1 is empty);
--- "an empty one on refusal"
+-- "the carried packet, perhaps empty, starts at octet 36", whichever length the sub-TLV states (W-202: "The octets are the same.");
+-- "for type 5 the whole Value" (that of type 1 is empty). A refused message has none before its end
+abbrev pub packetAt : ℕ → Answer Message → ℕ
+packetAt end (value (plain h)) = 16
+packetAt end (value (ptp h t)) = 36
+packetAt end (refused n) = end
+
+-- the octets from there on, and behind the end stand none: "an empty one on refusal"
 abbrev pub carriedBy : List ℕ → Answer Message → List ℕ
-carriedBy s (value (plain h)) = messageValue s
-carriedBy s (value (ptp h t)) = drop 36 s
-carriedBy s (refused n) = []
+carriedBy s a = drop (packetAt (length s) a) s
 
 abbrev pub carriedOf : List ℕ → List ℕ
 carriedOf s = carriedBy s (readOf s)

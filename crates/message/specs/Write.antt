@@ -9,7 +9,7 @@ use Rattle.refusal.specs.Answer.{Answer, value, refused, refuse}
 use Rattle.message.specs.declared.fields.Header.{Header}
 use Rattle.message.specs.declared.fields.SubTlv.{SubTlv}
 use Rattle.message.specs.declared.fields.Fields.{Fields}
-use Rattle.message.specs.Read.{isType}
+use Rattle.message.specs.Read.{isType, isSubTlvLength}
 
 -- "Types 2 to 4 begin the Value with the sub-TLV"
 abbrev pub isPtp : ℕ → Bool
@@ -23,14 +23,18 @@ gAchHeader = 0x10 ∷ 0x00 ∷ 0x00 ∷ 0x0F ∷ []
 abbrev pub headerOctets : Header → ℕ → List ℕ
 headerOctets h n = gAchHeader ++ signedOctets (h .pad) ++ octets 2 (h .«message_type») ++ octets 2 n
 
+-- Octets 16 to 19: sub-TLV type 1, and the length that it states: "the writer is told which to write" (document 02, W-202)
+abbrev pub subTlvHeader : ℕ → List ℕ
+subTlvHeader n = octets 2 1 ++ octets 2 n
+
 -- Octets 20 to 23: "S in the top bit of octet 20; 27 reserved bits, written 0, ..; PTPType in the low half of octet 23"
 abbrev pub flagOctets : Bool → ℕ → List ℕ
 flagOctets s k = cond s 0x80 0x00 ∷ 0x00 ∷ 0x00 ∷ k ∷ []
 
--- Octets 16 to 35: sub-TLV type 1, 20, the flags, Port ID (clock identity and port number), Sequence ID
+-- Octets 16 to 35: then the flags, Port ID (clock identity and port number), Sequence ID
 abbrev pub subTlvOctets : SubTlv → List ℕ
 subTlvOctets t =
-    octets 2 1 ++ octets 2 20 ++ flagOctets (t .«two_step») (t .«ptp_type») ++ octets 8 (t .clock) ++ octets 2 (t .port) ++ octets 2 (t .sequence)
+    subTlvHeader (t .length) ++ flagOctets (t .«two_step») (t .«ptp_type») ++ octets 8 (t .clock) ++ octets 2 (t .port) ++ octets 2 (t .sequence)
 
 -- a message of types 2 to 4: the header, the sub-TLV and the carried packet
 abbrev pub ptpOctets : Fields → List ℕ → List ℕ
@@ -54,14 +58,15 @@ fitOf n room =
     (refuse 12 (ltb room n)
     (value n))
 
--- "It tells the size written", from Type, PTPType, the number of carried octets and that of the output's:
--- 6, 17 ("types 2 to 4"), 7, 2, 12, in this order
-abbrev pub sizeOf : ℕ → ℕ → ℕ → ℕ → Answer ℕ
-sizeOf t k carried room =
+-- "It tells the size written", from Type, sub-TLV, the number of carried octets and that of the output's:
+-- 6, 17 ("types 2 to 4"), 23 ("for another length, types 2 to 4, directly after 17", W-202), 7, 2, 12, in this order
+abbrev pub sizeOf : ℕ → SubTlv → ℕ → ℕ → Answer ℕ
+sizeOf t s carried room =
     refuse 6 (not (isType t))
-    (refuse 17 (isPtp t && ltb 15 k)
+    (refuse 17 (isPtp t && ltb 15 (s .«ptp_type»))
+    (refuse 23 (isPtp t && not (isSubTlvLength (s .length)))
     (refuse 7 (eqb t 1 && ltb 0 carried)
-    (fitOf (carriedAt t + carried) room)))
+    (fitOf (carriedAt t + carried) room))))
 
 -- the answer and the output afterwards
 pub record Write : Type 0 where
@@ -74,7 +79,7 @@ outputBy f carried out (value n) = messageOctets f carried ++ drop n out
 outputBy f carried out (refused n) = out
 
 abbrev pub answerOf : Fields → List ℕ → List ℕ → Answer ℕ
-answerOf f carried out = sizeOf (f .header .«message_type») (f .«sub_tlv» .«ptp_type») (length carried) (length out)
+answerOf f carried out = sizeOf (f .header .«message_type») (f .«sub_tlv») (length carried) (length out)
 
 abbrev pub writeOf : Fields → List ℕ → List ℕ → Write
 writeOf f carried out = record { answer = answerOf f carried out; output = outputBy f carried out (answerOf f carried out) }

@@ -1,4 +1,7 @@
 // What a message says, beside the packet that it carries.
+use crate::layout;
+ghost use mathlib.Core.Path.{_≡_};
+ghost use Rattle.message.specs.Read.{isSubTlvLength};
 
 // The header's fields.
 pub struct Header {
@@ -10,6 +13,8 @@ pub struct Header {
 // The sub-TLV's fields, of types 2 to 4. The port identity (document 01's "port", ten octets) is
 // two numbers, clock identity and port number.
 pub struct SubTlv {
+    // The length that it states, 20 or 16. It has 20 octets either way.
+    pub length: u16,
     // The S bit.
     pub two_step: bool,
     pub ptp_type: u8,
@@ -22,4 +27,14 @@ pub struct SubTlv {
 pub struct Fields {
     pub header: Header,
     pub sub_tlv: SubTlv,
+}
+
+// Whether a sub-TLV may state this length.
+pub(crate) fn is_sub_tlv_length(length: u16) -> bool
+    ensures { λ r. ⌜ r ≡ isSubTlvLength length ⌝ }
+{
+    if length == layout::PTP_SUB_TLV_VALUE_LENGTH {
+        return true;
+    }
+    length == layout::PTP_SUB_TLV_LENGTH
 }

@@ -18,13 +18,15 @@ pub const VALUE: usize = 16;
 // The sub-TLV with which the Value of types 2 to 4 begins, counted from the Value's first octet.
 pub const SUB_TLV_TYPE: usize = 0;
 
-pub const SUB_TLV_LENGTH: usize = 2;
-// Octets 0 to 3 of the sub-TLV: type 1, and its length as RFC 8169 gives it, 20.
-pub const SUB_TLV_HEADER: [u8; 4] = *b"\x00\x01\x00\x14";
-
 pub const PTP_SUB_TLV: u16 = 1;
 
+pub const SUB_TLV_LENGTH: usize = 2;
+
+// The length that the sub-TLV states: as RFC 8169 gives it, and as neighbours do that count its
+// Value alone.
 pub const PTP_SUB_TLV_LENGTH: u16 = 20;
+
+pub const PTP_SUB_TLV_VALUE_LENGTH: u16 = 16;
 
 pub const FLAGS: usize = 4;
 

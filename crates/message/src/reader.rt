@@ -1,11 +1,12 @@
 // Reading: the header, the sub-TLV behind it, and the carried packet.
 use crate::fields::Header;
 use crate::fields::SubTlv;
+use crate::fields::is_sub_tlv_length;
 use crate::layout;
 use crate::types;
 ghost use mathlib.Core.Path.{_≡_};
 ghost use lib.ListN.{drop};
-ghost use Rattle.message.specs.Read.{headerOf, subTlvOf, readOf, carriedOf};
+ghost use Rattle.message.specs.Read.{headerOf, subTlvOf, readOf, packetAt, carriedOf};
 ghost use Rattle.message.specs.Answers.{headerAnswer, subTlvAnswer, readAnswer};
 
 // What a message says, or the number of the refusal.
@@ -74,7 +75,8 @@ fn read_sub_tlv(value: &[u8]) -> SubTlvReading
     if octets::read16(value, layout::SUB_TLV_TYPE) != layout::PTP_SUB_TLV {
         return SubTlvReading::Refused(refusal::SUB_TLV);
     }
-    if octets::read16(value, layout::SUB_TLV_LENGTH) != layout::PTP_SUB_TLV_LENGTH {
+    let length = octets::read16(value, layout::SUB_TLV_LENGTH);
+    if !is_sub_tlv_length(length) {
         return SubTlvReading::Refused(refusal::SUB_TLV);
     }
     let flags = value[layout::FLAGS];
@@ -83,6 +85,7 @@ fn read_sub_tlv(value: &[u8]) -> SubTlvReading
     let port = octets::read16(value, layout::PORT_NUMBER);
     let sequence = octets::read16(value, layout::SEQUENCE_ID);
     SubTlvReading::Sound(SubTlv {
+        length,
         two_step: 128 <= flags,
         ptp_type,
         clock,
@@ -127,9 +130,17 @@ fn after(s: &[u8], n: usize) -> &[u8]
 pub fn carried(s: &[u8]) -> &[u8]
     ensures { λ r. ⌜ now r ≡ carriedOf (now (s .entry)) ⌝ }
 {
-    match read(s) {
-        Reading::Plain(_) => after(s, layout::VALUE),
-        Reading::Ptp(_, _) => after(s, layout::CARRIED),
-        Reading::Refused(_) => &s[..0],
+    after(s, packet_at(read(s), s.len()))
+}
+
+// Where the carried packet starts: behind the sub-TLV, whichever length that states, or with the
+// Value; a refused message has none, and it is the end.
+fn packet_at(reading: Reading, end: usize) -> usize
+    ensures { λ r. ⌜ r ≡ packetAt end (readAnswer reading) ⌝ }
+{
+    match reading {
+        Reading::Plain(_) => layout::VALUE,
+        Reading::Ptp(_, _) => layout::CARRIED,
+        Reading::Refused(_) => end,
     }
 }

@@ -2,13 +2,14 @@
 use crate::fields::Fields;
 use crate::fields::Header;
 use crate::fields::SubTlv;
+use crate::fields::is_sub_tlv_length;
 use crate::layout;
 use crate::types;
 ghost use mathlib.Core.Path.{_≡_};
 ghost use Prim.Native.Nat.{_+_, _≤_};
 ghost use mathlib.Core.List.{_++_};
 ghost use lib.ListN.{length, take, drop};
-ghost use Rattle.message.specs.Write.{headerOctets, flagOctets, subTlvOctets, plainOctets, ptpOctets, isPtp, fitOf, sizeOf, writeOf};
+ghost use Rattle.message.specs.Write.{headerOctets, subTlvHeader, flagOctets, subTlvOctets, plainOctets, ptpOctets, isPtp, fitOf, sizeOf, writeOf};
 ghost use Rattle.message.specs.Answers.{writtenAnswer, written};
 
 // The size written, or the number of the refusal.
@@ -41,9 +42,9 @@ fn fit(start: usize, carried: usize, room: usize) -> Written
     Written::Size(start + carried)
 }
 
-// The message's size: refusals 6, 17 and 7, then those of `fit`.
-fn size(message_type: u16, ptp_type: u8, carried: usize, room: usize) -> Written
-    ensures { λ r. ⌜ writtenAnswer r ≡ sizeOf «message_type» «ptp_type» carried room ⌝ }
+// The message's size: refusals 6, 17, 23 and 7, then those of `fit`.
+fn size(message_type: u16, sub_tlv: SubTlv, carried: usize, room: usize) -> Written
+    ensures { λ r. ⌜ writtenAnswer r ≡ sizeOf «message_type» «sub_tlv» carried room ⌝ }
 {
     if message_type < types::NO_PAYLOAD {
         return Written::Refused(refusal::TYPE);
@@ -52,8 +53,13 @@ fn size(message_type: u16, ptp_type: u8, carried: usize, room: usize) -> Written
         return Written::Refused(refusal::TYPE);
     }
     if is_ptp(message_type) {
+        let ptp_type = sub_tlv.ptp_type;
+        let known_length = is_sub_tlv_length(sub_tlv.length);
         if types::LAST_PTP_TYPE < ptp_type {
             return Written::Refused(refusal::PTP_TYPE);
+        }
+        if !known_length {
+            return Written::Refused(refusal::SUB_TLV_LENGTH);
         }
         return fit(layout::CARRIED, carried, room);
     }
@@ -84,15 +90,25 @@ fn put_sub_tlv(value: &mut [u8], sub_tlv: SubTlv)
     requires { ⌜ 20 ≤ length (now value) ⌝ }
     ensures { λ _. ⌜ now (value .exit) ≡ subTlvOctets «sub_tlv» ++ drop 20 (now (value .entry)) ⌝ }
 {
+    let header = sub_tlv_header(sub_tlv.length);
     let flags = flag_octets(sub_tlv.two_step, sub_tlv.ptp_type);
     let clock = octets::octets64(sub_tlv.clock);
     let port = octets::octets16(sub_tlv.port);
     let sequence = octets::octets16(sub_tlv.sequence);
-    octets::put(value, layout::SUB_TLV_TYPE, &layout::SUB_TLV_HEADER);
+    octets::put(value, layout::SUB_TLV_TYPE, &header);
     octets::put(value, layout::FLAGS, &flags);
     octets::put(value, layout::CLOCK_IDENTITY, &clock);
     octets::put(value, layout::PORT_NUMBER, &port);
     octets::put(value, layout::SEQUENCE_ID, &sequence);
+}
+
+// The sub-TLV's type and the length that it states, octets 16 to 19 of the message.
+fn sub_tlv_header(length: u16) -> [u8; 4]
+    ensures { λ r. ⌜ r ≡ subTlvHeader length ⌝ }
+{
+    let sub_tlv_type = octets::octets16(layout::PTP_SUB_TLV);
+    let stated = octets::octets16(length);
+    [sub_tlv_type[0], sub_tlv_type[1], stated[0], stated[1]]
 }
 
 // The two-step flag and the PTPType, octets 20 to 23 of the message.
@@ -128,18 +144,13 @@ fn put_plain(out: &mut [u8], header: Header, carried: &[u8])
 }
 
 // Writes a message at the start of the output, which stays as it came beyond the size and on
-// refusal. The order of refusals is 6, 17, 7, 2, 12.
+// refusal. The order of refusals is 6, 17, 23, 7, 2, 12.
 pub fn write(out: &mut [u8], fields: Fields, carried: &[u8]) -> Written
     ensures { λ r. ⌜ written r (now (out .exit)) ≡ writeOf fields (now (carried .entry)) (now (out .entry)) ⌝ }
 {
     let header = fields.header;
     let sub_tlv = fields.sub_tlv;
-    match size(
-        header.message_type,
-        sub_tlv.ptp_type,
-        carried.len(),
-        out.len(),
-    ) {
+    match size(header.message_type, sub_tlv, carried.len(), out.len()) {
         Written::Size(n) => {
             if is_ptp(header.message_type) {
                 put_ptp(out, fields, carried);

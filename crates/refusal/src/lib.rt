@@ -39,6 +39,8 @@ pub const NOT_FOR_TWO_STEP: u8 = 16;
 // Writing a message.
 pub const PTP_TYPE: u8 = 17;
 
+pub const SUB_TLV_LENGTH: u8 = 23;
+
 // Joining.
 pub const NOT_A_PAIR: u8 = 18;
 

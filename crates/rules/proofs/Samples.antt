@@ -29,7 +29,7 @@ octetsOf q s k pad =
     ptpOctets
     (record {
       header = record { «message_type» = 3; pad = pad };
-      «sub_tlv» = record { «two_step» = s; «ptp_type» = k; clock = q .clock; port = q .port; sequence = q .sequence };
+      «sub_tlv» = record { length = 20; «two_step» = s; «ptp_type» = k; clock = q .clock; port = q .port; sequence = q .sequence };
     })
     []
 

@@ -3,6 +3,7 @@ use message::Fields;
 use message::Header;
 use message::SubTlv;
 use message::Written;
+use message::layout;
 use message::types;
 
 pub(crate) const CLOCK: u64 = 0x0001_0203_0405_0607;
@@ -18,8 +19,14 @@ pub(crate) const HIGHEST: i64 = 9_223_372_036_854_775_807;
 
 // A message of any Type with this pad: what it says beside the pad is that of a Sync with S clear.
 pub(crate) fn of_type(message_type: u16, pad: i64) -> Fields {
+    of_length(message_type, pad, layout::PTP_SUB_TLV_LENGTH)
+}
+
+// The same, whose sub-TLV states this length.
+pub(crate) fn of_length(message_type: u16, pad: i64, length: u16) -> Fields {
     let header = Header { message_type, pad };
     let sub_tlv = SubTlv {
+        length,
         two_step: false,
         ptp_type: types::SYNC,
         clock: CLOCK,
@@ -36,6 +43,7 @@ pub(crate) fn with_flag(ptp_type: u8, sequence: u16, pad: i64) -> Fields {
         pad,
     };
     let sub_tlv = SubTlv {
+        length: layout::PTP_SUB_TLV_LENGTH,
         two_step: true,
         ptp_type,
         clock: CLOCK,

@@ -29,6 +29,7 @@ fn fields(message_type: u16, ptp_type: u8, identity: u16) -> Fields {
         pad: 0,
     };
     let sub_tlv = SubTlv {
+        length: layout::PTP_SUB_TLV_LENGTH,
         two_step: true,
         ptp_type,
         clock: identity as u64,

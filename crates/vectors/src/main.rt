@@ -26,6 +26,8 @@ fn run(operation: u8, body: &[u8]) {
         9 => lists::run_entry(body),
         10 => images::run_write(body),
         11 => images::run_load(body),
+        12 => read::run_length(body),
+        13 => write::run_length(body),
         _ => {}
     }
 }

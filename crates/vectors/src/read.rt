@@ -1,4 +1,4 @@
-// Operation 1: what a message says.
+// Operations 1 and 12: what a message says, and the length that its sub-TLV states.
 use crate::format;
 use libc::STDOUT_FILENO;
 use message::Header;
@@ -8,6 +8,19 @@ use message::SubTlv;
 pub(crate) fn run(body: &[u8]) {
     let message = format::counted(body);
     format::text(b"read");
+    print(message);
+    format::text(b"\n");
+}
+
+pub(crate) fn run_length(body: &[u8]) {
+    let message = format::counted(body);
+    format::text(b"read-length");
+    print(message);
+    print_length(message::read(message));
+    format::text(b"\n");
+}
+
+fn print(message: &[u8]) {
     match message::read(message) {
         Reading::Plain(header) => {
             print_header(header);
@@ -21,7 +34,6 @@ pub(crate) fn run(body: &[u8]) {
         }
         Reading::Refused(n) => format::refused(n),
     }
-    format::text(b"\n");
 }
 
 fn print_header(header: Header) {
@@ -36,4 +48,12 @@ fn print_sub_tlv(sub_tlv: SubTlv) {
     io::print_hex(STDOUT_FILENO, sub_tlv.clock, 16);
     io::print_hex(STDOUT_FILENO, sub_tlv.port as u64, 4);
     format::number(b" seq ", sub_tlv.sequence as u64);
+}
+
+fn print_length(reading: Reading) {
+    match reading {
+        Reading::Plain(_) => format::text(b" length -"),
+        Reading::Ptp(_, sub_tlv) => format::number(b" length ", sub_tlv.length as u64),
+        Reading::Refused(_) => {}
+    }
 }

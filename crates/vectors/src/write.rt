@@ -1,19 +1,21 @@
-// Operation 2: a message written from its fields.
+// Operations 2 and 13: a message written from its fields.
 use crate::format;
 use message::Fields;
 use message::Header;
 use message::SubTlv;
 use message::Written;
+use message::layout;
 
 // The fields of the body, in their order: Type (2), pad (8), s (1), PTPType (1), port (10),
-// sequence (2), room (2), and the carried packet.
-fn fields(body: &[u8]) -> Fields {
+// sequence (2). The sub-TLV's length is given apart.
+fn fields(body: &[u8], length: u16) -> Fields {
     let header = Header {
         message_type: octets::read16(body, 0),
         pad: octets::read_signed(body, 2),
     };
     let flags = octets::read16(body, 10);
     let sub_tlv = SubTlv {
+        length,
         two_step: flags / 256 == 1,
         ptp_type: (flags % 256) as u8,
         clock: octets::read64(body, 12),
@@ -23,10 +25,8 @@ fn fields(body: &[u8]) -> Fields {
     Fields { header, sub_tlv }
 }
 
-fn run_in(out: &mut [u8], body: &[u8]) {
-    let carried = format::counted(format::after(body, 26));
-    format::text(b"write");
-    match message::write(out, fields(body), carried) {
+fn write_in(out: &mut [u8], fields: Fields, carried: &[u8]) {
+    match message::write(out, fields, carried) {
         Written::Size(n) => format::number(b" size ", n as u64),
         Written::Refused(n) => format::refused(n),
     }
@@ -34,8 +34,32 @@ fn run_in(out: &mut [u8], body: &[u8]) {
     format::text(b"\n");
 }
 
-pub(crate) fn run(body: &[u8]) {
+// Writes into an output of the size that the rest of the body gives: room (2), and the carried
+// packet.
+fn write(fields: Fields, rest: &[u8]) {
     let mut out = format::output();
-    let room = octets::read16(body, 24) as usize;
-    run_in(&mut out[0..room], body);
+    let room = octets::read16(rest, 0) as usize;
+    write_in(
+        &mut out[0..room],
+        fields,
+        format::counted(format::after(rest, 2)),
+    );
+}
+
+// With the length that RFC 8169 gives.
+pub(crate) fn run(body: &[u8]) {
+    format::text(b"write");
+    write(
+        fields(body, layout::PTP_SUB_TLV_LENGTH),
+        format::after(body, 24),
+    );
+}
+
+// With a length (2) of the body's, behind the sequence.
+pub(crate) fn run_length(body: &[u8]) {
+    format::text(b"write-length");
+    write(
+        fields(body, octets::read16(body, 24)),
+        format::after(body, 26),
+    );
 }

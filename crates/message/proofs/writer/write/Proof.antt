@@ -20,10 +20,10 @@ use Rattle.message.proofs.writer.write.Tie as tie
 sized : (c : tie.After-n) → answerOf (c .before .before .before .before .before .before .before .args .fields) (c .before .before .before .before .before .before .before .args .carried .now) (c .before .before .before .before .before .before .before .args .out .now) ≡ value (c .n .given .0 .0)
 sized c = sym (ap writtenAnswer (sym (c .n .given .1)) ∙ c .before .before .size .ensures)
 
-known : (c : tie.After-n) → Accepted (c .before .before .before .before .before .before .before .args .fields .header .«message_type») (c .before .before .before .before .before .before .before .args .fields .«sub_tlv» .«ptp_type») (length (c .before .before .before .before .before .before .before .args .carried .now)) (length (c .before .before .before .before .before .before .before .args .out .now)) (c .n .given .0 .0)
+known : (c : tie.After-n) → Accepted (c .before .before .before .before .before .before .before .args .fields .header .«message_type») (c .before .before .before .before .before .before .before .args .fields .«sub_tlv») (length (c .before .before .before .before .before .before .before .args .carried .now)) (length (c .before .before .before .before .before .before .before .args .out .now)) (c .n .given .0 .0)
 known c =
     let a = c .before .before .before .before .before .before .before .args in
-    accepted (a .fields .header .«message_type») (a .fields .«sub_tlv» .«ptp_type») (length (a .carried .now)) (length (a .out .now)) (c .n .given .0 .0) (sized c)
+    accepted (a .fields .header .«message_type») (a .fields .«sub_tlv») (length (a .carried .now)) (length (a .out .now)) (c .n .given .0 .0) (sized c)
 
 done : (f : Fields) (v o last : List ℕ) (n : ℕ) → answerOf f v o ≡ value n → last ≡ messageOctets f v ++ drop n o → written (Size n) last ≡ writeOf f v o
 done f v o last n e q = rw (e, q)
