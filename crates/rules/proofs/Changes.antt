@@ -17,12 +17,12 @@ use mir.ValLaws.{toZ-ofZ, toZ-pos, ofZ-fits}
 use Rattle.octets.specs.Octets.{number, octets, signedOctets, put}
 use Rattle.octets.proofs.Numbers.{number-octets, number-drop}
 use Rattle.octets.proofs.Puts.{length-put, getD-before, getD-behind, getD-there, drop-behind, number-before, number-behind, number-there, each, part-each}
-use Rattle.message.specs.Read.{subTlv}
+use Rattle.message.specs.Read.{isSubTlvLength, subTlv, messageValue}
 use Rattle.message.specs.Write.{gAchHeader}
-use Rattle.message.proofs.Sound.{SoundHeader}
+use Rattle.message.proofs.Sound.{SoundHeader, stated-length}
 use Rattle.scratch_pad.specs.Sum.{inRange}
 use Rattle.records.specs.declared.Identity.{Identity}
-use Rattle.rules.specs.Change.{padOf, withPad, withTwoStep, followUpOf}
+use Rattle.rules.specs.Change.{padOf, withPad, withTwoStep, followUpFields, followUpOf}
 use Rattle.rules.specs.Rules.{identityIn}
 use Rattle.rules.proofs.Bearing.{Bears}
 
@@ -127,17 +127,17 @@ module _ (s : List ℕ) (k : ℕ) (b : Bool) (q : Identity) (m : Bears s k b q) 
   module _ (u : ℕ) (small : u < 2 ^ 63) where
     abbrev written : List ℕ
     written =
-        gAchHeader ++ octets 8 u ++ each 2 12 s ++ octets 2 20 ++ octets 2 1 ++ octets 2 20 ++ (0x80 ∷ 0x00 ∷ 0x00 ∷ 0x08 ∷ []) ++ each 12 24 s
+        gAchHeader ++ octets 8 u ++ each 2 12 s ++ followUpFields (each 2 18 s) ++ each 12 24 s
 
     follow-up-octets : followUpOf s u ≡ written
-    follow-up-octets = rw (part-each 2 12 s (omega (arith, long)), part-each 12 24 s (omega (arith, long)))
+    follow-up-octets = rw (part-each 2 12 s (omega (arith, long)), part-each 2 18 s (omega (arith, long)), part-each 12 24 s (omega (arith, long)))
 
     pub follow-up-length : length (followUpOf s u) ≡ 36
     follow-up-length = ap length follow-up-octets
 
     written-pad : padOf written ≡ pos u
     written-pad =
-        ap (toZ w64) (number-octets 8 u 4 gAchHeader (each 2 12 s ++ octets 2 20 ++ octets 2 1 ++ octets 2 20 ++ (0x80 ∷ 0x00 ∷ 0x00 ∷ 0x08 ∷ []) ++ each 12 24 s) refl (omega arith))
+        ap (toZ w64) (number-octets 8 u 4 gAchHeader (each 2 12 s ++ followUpFields (each 2 18 s) ++ each 12 24 s) refl (omega arith))
         ∙ toZ-pos w64 u small
 
     pub follow-up-pad : padOf (followUpOf s u) ≡ pos u
@@ -158,7 +158,7 @@ module _ (s : List ℕ) (k : ℕ) (b : Bool) (q : Identity) (m : Bears s k b q) 
                 not-one = h .not-one;
                 not-five = h .not-five;
                 long = omega arith;
-                is = refl;
+                is = ap isSubTlvLength (sym (number-drop 2 16 2 s)) ∙ stated-length (messageValue s) (h .is);
               };
           kind = refl;
           two-step = refl;

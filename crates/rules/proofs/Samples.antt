@@ -23,13 +23,13 @@ use Rattle.rules.specs.Path.{Stop, ReplyAt, Visit}
 abbrev pub numbered : ℕ → Identity
 numbered n = record { clock = 0x0001020304050607; port = 1; sequence = n }
 
--- the octets of a message with this identity, by S, PTPType and pad
+-- the octets of a neighbour's message with this identity, by S, PTPType and pad: its sub-TLV states 16
 abbrev pub octetsOf : Identity → Bool → ℕ → ℤ → List ℕ
 octetsOf q s k pad =
     ptpOctets
     (record {
       header = record { «message_type» = 3; pad = pad };
-      «sub_tlv» = record { length = 20; «two_step» = s; «ptp_type» = k; clock = q .clock; port = q .port; sequence = q .sequence };
+      «sub_tlv» = record { length = 16; «two_step» = s; «ptp_type» = k; clock = q .clock; port = q .port; sequence = q .sequence };
     })
     []
 

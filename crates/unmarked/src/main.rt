@@ -3,6 +3,7 @@
 mod additions;
 mod headers;
 mod joins;
+mod lengths;
 mod limits;
 mod lists;
 mod messages;
@@ -20,4 +21,5 @@ fn main() {
     switchovers::run();
     joins::run();
     headers::run();
+    lengths::run();
 }
