@@ -5,8 +5,8 @@ use mathlib.Core.List.{List, [], _∷_, _++_, map}
 use lib.IntN.{ℤ, pos, negsuc}
 use lib.ListN.{take, replicate}
 use Rattle.refusal.specs.Answer.{Answer, value, refused}
-use Rattle.stamp.specs.declared.Stamp.{Stamp}
-use Rattle.stamp.specs.Stamp.{nanosecondsOf, residenceOf}
+use Rattle.stamp.specs.declared.ptp.Stamp.{Stamp}
+use Rattle.stamp.specs.Ptp.{nanosecondsOf, residenceOf}
 use Rattle.message.specs.Read.{Message, plain, readOf}
 use Rattle.message.specs.Write.{plainOctets}
 use Rattle.records.specs.Slots.{Slots, zeros}

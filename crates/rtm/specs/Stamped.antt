@@ -10,8 +10,8 @@ use lib.IntN.{ℤ, pos, _+ℤ_}
 use Rattle.refusal.specs.Answer.{Answer, value, refused}
 use Rattle.residence.specs.declared.Residence.{Residence}
 use Rattle.residence.specs.declared.Residence.the-variants.{Units, InvalidStamp, TooLong}
-use Rattle.stamp.specs.declared.Stamp.{Stamp}
-use Rattle.stamp.specs.Stamp.{residenceOf}
+use Rattle.stamp.specs.declared.ptp.Stamp.{Stamp}
+use Rattle.stamp.specs.Ptp.{residenceOf}
 use Rattle.records.specs.declared.Identity.{Identity}
 use Rattle.records.specs.Slots.{Slots}
 use Rattle.records.specs.Node.{Node, Event, tick, call, switchover, run, final}

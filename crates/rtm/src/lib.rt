@@ -2,7 +2,7 @@
 // 01, What a node does). They are the calls of crate `node` with the residence between the stamps.
 use node::Answer;
 use node::Done;
-use stamp::Stamp;
+use stamp::ptp::Stamp;
 use table::Table;
 ghost use mathlib.Core.Path.{_≡_};
 ghost use Prim.Native.Nat.{ℕ};
@@ -18,7 +18,7 @@ pub fn one_step(message: &mut [u8], entry: Stamp, exit: Stamp) -> Answer
         ((t : Slots) (o : List ℕ) → doneAlone r (now (message .exit)) o t ≡ callOf t (handedCall oneStep (now (message .entry)) o entry exit))
         ⌝ }
 {
-    node::handle_one_step(message, stamp::residence_between(entry, exit))
+    node::handle_one_step(message, stamp::ptp::residence_between(entry, exit))
 }
 
 // A message at a two-step node: created, waiting, added or passed; refusals 1 to 16, see
@@ -39,6 +39,6 @@ pub fn two_step(
         table,
         message,
         output,
-        stamp::residence_between(entry, exit),
+        stamp::ptp::residence_between(entry, exit),
     )
 }

@@ -8,8 +8,8 @@ use borrow.Author.Tests.{ltb-false}
 use lib.Dec.{ltb}
 use Rattle.refusal.specs.Answer.{value, refuse}
 use Rattle.refusal.proofs.Answers.{passes}
-use Rattle.stamp.specs.declared.Stamp.{Stamp}
-use Rattle.stamp.specs.Stamp.{secondsDifference, cycle, elapsed, nanosecondsOf}
+use Rattle.stamp.specs.declared.ptp.Stamp.{Stamp}
+use Rattle.stamp.specs.Ptp.{secondsDifference, cycle, elapsed, nanosecondsOf}
 
 -- the code's difference, from the seconds' difference s and the nanoseconds x and y
 pub by-parts : (s a x b y : ℕ) → a < 2 ^ 32 → b < 2 ^ 32 → x ≤ 999999999 → s ≡ secondsDifference a b

@@ -1,8 +1,8 @@
 -- The answer of `nanoseconds_between` in document 01's numbers.
 use Prim.Native.Nat.{ℕ}
 use Rattle.refusal.specs.Answer.{Answer, value, refused}
-use Rattle.stamp.specs.declared.Elapsed.{Elapsed}
-use Rattle.stamp.specs.declared.Elapsed.the-variants.{Nanoseconds, InvalidStamp, TooLong}
+use Rattle.stamp.specs.declared.ptp.Elapsed.{Elapsed}
+use Rattle.stamp.specs.declared.ptp.Elapsed.the-variants.{Nanoseconds, InvalidStamp, TooLong}
 
 abbrev pub elapsedAnswer : Elapsed → Answer ℕ
 elapsedAnswer (Nanoseconds n) = value n

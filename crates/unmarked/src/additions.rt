@@ -6,7 +6,7 @@ use message::layout;
 use message::types;
 use records::Identity;
 use records::Record;
-use stamp::Stamp;
+use stamp::ptp::Stamp;
 use table::Table;
 
 // A stamp in second 0.

@@ -2,7 +2,7 @@
 // created Follow_Up.
 use crate::messages;
 use crate::print;
-use stamp::Stamp;
+use stamp::ptp::Stamp;
 use table::Table;
 
 // Whether the message begins with the header.

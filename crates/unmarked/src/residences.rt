@@ -1,7 +1,7 @@
 // The residence between two stamps: none, the largest, too long a one, and stamps that are no time.
 use crate::print;
 use residence::Residence;
-use stamp::Stamp;
+use stamp::ptp::Stamp;
 
 fn print_stamp(word: &[u8], stamp: Stamp) {
     print::number(word, stamp.seconds as u64);
@@ -12,7 +12,7 @@ fn show(entry: Stamp, exit: Stamp) {
     print_stamp(b"residence from ", entry);
     print_stamp(b" to ", exit);
     print::text(b": ");
-    match stamp::residence_between(entry, exit) {
+    match stamp::ptp::residence_between(entry, exit) {
         Residence::Units(n) => print::number(b"units ", n),
         Residence::InvalidStamp => print::refused(refusal::INVALID_STAMP),
         Residence::TooLong => print::refused(refusal::TOO_LONG_RESIDENCE),

@@ -1,7 +1,7 @@
 // How a case is laid out, and how its line is written.
 use libc::STDOUT_FILENO;
 use node::Answer;
-use stamp::Stamp;
+use stamp::ptp::Stamp;
 ghost use mathlib.Core.Path.{_≡_};
 ghost use lib.ListN.{length};
 

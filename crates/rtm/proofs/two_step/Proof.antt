@@ -2,7 +2,7 @@
 -- Assumes nothing.
 use mathlib.Core.Path.{ap, _∙_}
 use Rattle.residence.specs.declared.Residence.{Residence}
-use Rattle.stamp.specs.Stamp.{residenceOf}
+use Rattle.stamp.specs.Ptp.{residenceOf}
 use Rattle.rtm.proofs.Runs.{same-residence}
 use Rattle.rules.specs.Rules.{callOf}
 use Rattle.node.specs.Calls.{twoStepCall}

@@ -7,8 +7,8 @@ use Rattle.refusal.specs.Answer.{Answer, value, andThen}
 use Rattle.stamp.specs.Answers.{elapsedAnswer}
 use Rattle.stamp.proofs.Cycle.{accepted}
 use borrow.Author.Needs.{needs}
-use Rattle.stamp.proofs.residence_between.Statement.{statement}
-use Rattle.stamp.proofs.residence_between.Tie as tie
+use Rattle.stamp.proofs.ptp.residence_between.Statement.{statement}
+use Rattle.stamp.proofs.ptp.residence_between.Tie as tie
 
 -- the units of an answer in nanoseconds
 abbrev units : Answer ℕ → Answer ℕ

@@ -5,11 +5,11 @@ use Prim.Native.Nat.{_+_, _*_, _-_, _%_}
 use mathlib.Core.Path.{_≡_, ap}
 use borrow.Author.Tests.{lt-ltb, le-ltb}
 use Rattle.refusal.specs.Answer.{value}
-use Rattle.stamp.specs.Stamp.{elapsed}
+use Rattle.stamp.specs.Ptp.{elapsed}
 use Rattle.stamp.proofs.Cycle.{by-parts}
 use borrow.Author.Needs.{needs}
-use Rattle.stamp.proofs.nanoseconds_between.Statement.{statement}
-use Rattle.stamp.proofs.nanoseconds_between.Tie as tie
+use Rattle.stamp.proofs.ptp.nanoseconds_between.Statement.{statement}
+use Rattle.stamp.proofs.ptp.nanoseconds_between.Tie as tie
 
 parts : (c : tie.After-seconds-between) → (c .seconds-between .result * 1000000000 + c .before .before .before .before .before .args .exit .nanoseconds + 4294967296000000000 - c .before .before .before .before .before .args .entry .nanoseconds) % 4294967296000000000 ≡ elapsed (c .before .before .before .before .before .args .entry) (c .before .before .before .before .before .args .exit)
 parts c =

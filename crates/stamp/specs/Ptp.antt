@@ -3,7 +3,7 @@ use Prim.Native.Nat.{ℕ, _+_, _*_, _-_, _%_, _^_}
 use mathlib.Core.Bool.{_||_}
 use lib.Dec.{ltb}
 use Rattle.refusal.specs.Answer.{Answer, value, refuse, andThen}
-use Rattle.stamp.specs.declared.Stamp.{Stamp}
+use Rattle.stamp.specs.declared.ptp.Stamp.{Stamp}
 
 -- "Seconds pass from 4,294,967,295 to 0": their difference modulo 2^32
 abbrev pub secondsDifference : ℕ → ℕ → ℕ

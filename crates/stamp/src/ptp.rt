@@ -1,0 +1,59 @@
+// The residence between two PTP truncated timestamps (RFC 8877, 4.3; document 01, Stamps and the stay).
+use residence::Residence;
+ghost use mathlib.Core.Path.{_≡_};
+ghost use Rattle.residence.specs.Residence.{residenceAnswer};
+ghost use Rattle.stamp.specs.Ptp.{secondsDifference, nanosecondsOf, residenceOf};
+ghost use Rattle.stamp.specs.Answers.{elapsedAnswer};
+
+// A PTP truncated timestamp. Nanoseconds over 999,999,999 are no time.
+pub struct Stamp {
+    pub seconds: u32,
+    pub nanoseconds: u32,
+}
+
+// The time between two stamps, in nanoseconds, or why there is none.
+pub enum Elapsed {
+    Nanoseconds(u64),
+    // A stamp that is no time (refusal 9).
+    InvalidStamp,
+    // Over 3,999,999,999 nanoseconds, as after a clock was set back (refusal 10).
+    TooLong,
+}
+
+// The difference of the seconds, which pass from 4,294,967,295 to 0.
+pub fn seconds_between(entry: u32, exit: u32) -> u32
+    ensures { λ r. ⌜ r ≡ secondsDifference entry exit ⌝ }
+{
+    std::num::wrapping_sub_u32(exit, entry)
+}
+
+// The residence in nanoseconds.
+pub fn nanoseconds_between(entry: Stamp, exit: Stamp) -> Elapsed
+    ensures { λ r. ⌜ elapsedAnswer r ≡ nanosecondsOf entry exit ⌝ }
+{
+    if 999_999_999 < entry.nanoseconds {
+        return Elapsed::InvalidStamp;
+    }
+    if 999_999_999 < exit.nanoseconds {
+        return Elapsed::InvalidStamp;
+    }
+    let seconds = seconds_between(entry.seconds, exit.seconds) as u64;
+    let later = seconds * 1_000_000_000 + (exit.nanoseconds as u64);
+    let elapsed = (later + 4_294_967_296_000_000_000 - (entry.nanoseconds as u64))
+        % 4_294_967_296_000_000_000;
+    if 3_999_999_999 < elapsed {
+        return Elapsed::TooLong;
+    }
+    Elapsed::Nanoseconds(elapsed)
+}
+
+// The residence in pad units, as it goes on to a node.
+pub fn residence_between(entry: Stamp, exit: Stamp) -> Residence
+    ensures { λ r. ⌜ residenceAnswer r ≡ residenceOf entry exit ⌝ }
+{
+    match nanoseconds_between(entry, exit) {
+        Elapsed::Nanoseconds(n) => Residence::Units(n * 65_536),
+        Elapsed::InvalidStamp => Residence::InvalidStamp,
+        Elapsed::TooLong => Residence::TooLong,
+    }
+}
