@@ -1,14 +1,14 @@
--- A residence that a node takes is below the limit.
+-- A residence that a node takes is below the limit, and one below the limit keeps its promise.
 -- Assumes nothing.
 use Prim.Native.Nat.{ℕ, _<_}
-use mathlib.Core.Path.{_≡_}
+use mathlib.Core.Path.{_≡_, refl}
 use native.Mathlib.Omega.{arith}
-use borrow.Author.Tests.{leb-false}
+use borrow.Author.Tests.{leb-false, lt-leb}
 use lib.Dec.{leb}
 use Rattle.refusal.specs.Answer.{Answer, value, refused, refuse, andThen}
 use Rattle.refusal.proofs.Answers.{not-both, passes}
 use Rattle.residence.specs.declared.Residence.{Residence}
-use Rattle.residence.specs.Residence.{residenceAnswer, limit, acceptedOf}
+use Rattle.residence.specs.Residence.{residenceAnswer, limit, acceptedOf, Promise}
 
 pub below-limit : (r : Residence) (u : ℕ) → acceptedOf r ≡ value u → u < limit
 below-limit r u e = go (residenceAnswer r) e
@@ -22,3 +22,10 @@ below-limit r u e = go (residenceAnswer r) e
         out : value v ≡ value u → v ≡ u
         out x = cc
     go (refused n) p = absurd (not-both p)
+
+pub promised : (r : Residence) → ((u : ℕ) → residenceAnswer r ≡ value u → u < limit) → Promise r
+promised r h = go (residenceAnswer r) h
+  where
+    go : (a : Answer ℕ) → ((u : ℕ) → a ≡ value u → u < limit) → andThen a (λ u. refuse 10 (leb limit u) (value u)) ≡ a
+    go (value u) h = rw (lt-leb limit u (h u refl))
+    go (refused n) h = refl

@@ -7,7 +7,7 @@ use native.Mathlib.Omega.{arith}
 use borrow.Author.Tests.{ltb-false}
 use lib.Dec.{ltb}
 use Rattle.refusal.specs.Answer.{value, refuse}
-use Rattle.refusal.proofs.Answers.{passes}
+use Rattle.refusal.proofs.Answers.{passes, same-value}
 use Rattle.stamp.specs.declared.ptp.Stamp.{Stamp}
 use Rattle.stamp.specs.Ptp.{secondsDifference, cycle, elapsed, nanosecondsOf}
 
@@ -16,11 +16,11 @@ pub by-parts : (s a x b y : ℕ) → a < 2 ^ 32 → b < 2 ^ 32 → x ≤ 9999999
     → (s * 1000000000 + y + 4294967296000000000 - x) % 4294967296000000000 ≡ (b * 1000000000 + y + cycle - (a * 1000000000 + x)) % cycle
 by-parts s a x b y ha hb hx e = omega arith
 
--- nanoseconds that are accepted
-pub accepted : (entry exit : Stamp) (n : ℕ) → nanosecondsOf entry exit ≡ value n → n ≤ 3999999999
+-- nanoseconds that are accepted: those between the stamps
+pub accepted : (entry exit : Stamp) (n : ℕ) → nanosecondsOf entry exit ≡ value n → (elapsed entry exit ≡ n) × (n ≤ 3999999999)
 accepted entry exit n e =
     let d = elapsed entry exit in
     let f = passes 9 (ltb 999999999 (entry .nanoseconds) || ltb 999999999 (exit .nanoseconds)) (refuse 10 (ltb 3999999999 d) (value d)) n e in
     let g = passes 10 (ltb 3999999999 d) (value d) n (f .1) in
-    let same : d ≡ n = cc in
-    omega (arith, ltb-false 3999999999 d (g .0))
+    let same : d ≡ n = same-value (g .1) in
+    (same, omega (arith, ltb-false 3999999999 d (g .0)))

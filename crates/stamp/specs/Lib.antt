@@ -1,2 +1,5 @@
 pub mod Answers
 pub mod Ptp
+pub mod Ntp
+pub mod Stamps
+pub mod Rounding

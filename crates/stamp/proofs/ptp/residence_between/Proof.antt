@@ -24,7 +24,7 @@ mul-t6 : tie.Need-mul-t6
 mul-t6 c =
     let a = c .before .before .before .before .args in
     let e = ap elapsedAnswer (sym (c .before .n .given .1)) ∙ c .before .before .before .nanoseconds-between .ensures in
-    omega (arith, accepted (a .entry) (a .exit) (c .before .n .given .0 .0) (sym e))
+    omega (arith, accepted (a .entry) (a .exit) (c .before .n .given .0 .0) (sym e) .1)
 
 enum-told : tie.Need-enum-told
 enum-told c = search needs
