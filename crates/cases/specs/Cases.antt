@@ -6,6 +6,7 @@ use lib.IntN.{ℤ, pos, negsuc}
 use lib.ListN.{take, replicate}
 use Rattle.refusal.specs.Answer.{Answer, value, refused}
 use Rattle.stamp.specs.declared.ptp.Stamp.{Stamp}
+use Rattle.stamp.specs.declared.stamps.Stamps.the-variants.{Ptp}
 use Rattle.stamp.specs.Ptp.{nanosecondsOf, residenceOf}
 use Rattle.message.specs.Read.{Message, plain, readOf}
 use Rattle.message.specs.Write.{plainOctets}
@@ -41,7 +42,7 @@ at s n = record { seconds = s; nanoseconds = n }
 
 -- a call on a message that was at the node so many nanoseconds, and the slots of a new table
 abbrev callAt : Mode → List ℕ → ℕ → ℕ → Call
-callAt m s n room = record { mode = m; message = s; residence = stampedResidence (at 0 0) (at 0 n); output = replicate room 0 }
+callAt m s n room = record { mode = m; message = s; residence = stampedResidence (Ptp (at 0 0) (at 0 n)); output = replicate room 0 }
 
 abbrev new : Slots
 new = replicate 16 zeros

@@ -1,19 +1,29 @@
--- Runs of calls with stamps, event by event; and the residence that two stamps give.
+-- Runs of calls with stamps, event by event; and the residence that they give, as a node takes it.
 -- Assumes nothing.
-use Prim.Native.Nat.{ℕ}
-use mathlib.Core.Path.{_≡_, refl, ap, _∙_}
-use mathlib.Core.List.{List, [], _∷_, map}
-use Rattle.refusal.specs.Answer.{Answer}
+use Prim.Native.Nat.{ℕ, zero, suc, _+_}
+use mathlib.Core.Path.{_≡_, refl, sym, ap, _∙_}
+use mathlib.Core.List.{List, [], _∷_, _++_, map}
+use mathlib.Core.Logic.{_⊎_, inl, inr}
+use native.Mathlib.Omega.{arith}
+use lib.IntN.{ℤ, pos, _+ℤ_}
+use lib.ListN.{getElem?}
+use Rattle.refusal.specs.Answer.{Answer, value, refused}
 use Rattle.residence.specs.declared.Residence.{Residence}
 use Rattle.residence.specs.declared.Residence.the-variants.{Units, InvalidStamp, TooLong}
-use Rattle.residence.specs.Residence.{residenceAnswer}
+use Rattle.residence.specs.Residence.{residenceAnswer, acceptedOf}
+use Rattle.stamp.specs.declared.stamps.Stamps.{Stamps}
+use Rattle.stamp.specs.Stamps.{residenceOf}
+use Rattle.stamp.proofs.Given.{refusals, keeps-promise}
 use Rattle.records.specs.Slots.{Slots}
 use Rattle.records.specs.Node.{Lawful, Event, tick, call, switchover, Result, result, step, run, final}
 use Rattle.records.proofs.Orders.{order-free}
+use Rattle.rules.specs.Change.{padOf}
 use Rattle.rules.specs.Rules.{Reply, rules}
+use Rattle.rules.specs.Path.{unitsOf, unitsIn, residences}
 use Rattle.rules.proofs.Laws.{lawful}
 use Rattle.rules.proofs.PathSums.{path-sum}
-use Rattle.rtm.specs.Stamped.{residenceBy, StampedCall, handed, handedEvent, stamped, SameRun, StampedOrderDoesNotMatter, asStop, StampedPathSum}
+use Rattle.rtm.specs.Stamped.{residenceBy, stampedResidence, StampedCall, handed, handedEvent, stamped, SameRun, StampedOrderDoesNotMatter}
+use Rattle.rtm.specs.Stamped.{StampedStop, asStop, stampsIn, syncStamps, total, units, StampedPathSum}
 
 -- a residence is the one of its answer
 by-answer : (r : Residence) → r ≡ residenceBy (residenceAnswer r)
@@ -23,6 +33,21 @@ by-answer TooLong = refl
 
 pub same-residence : (r : Residence) (a : Answer ℕ) → residenceAnswer r ≡ a → r ≡ residenceBy a
 same-residence r a e = by-answer r ∙ ap residenceBy e
+
+-- and says what the stamps give, so that a node accepts just that
+says : (s : Stamps) → residenceAnswer (stampedResidence s) ≡ residenceOf s
+says s = go (residenceOf s) refl
+  where
+    either : (n : ℕ) → (n ≡ 9) ⊎ (n ≡ 10) → residenceAnswer (residenceBy (refused n)) ≡ refused n
+    either n (inl e) = rw e
+    either n (inr e) = rw e
+
+    go : (a : Answer ℕ) → residenceOf s ≡ a → residenceAnswer (residenceBy a) ≡ a
+    go (value u) e = refl
+    go (refused n) e = either n (refusals s n e)
+
+pub accepted-is : (s : Stamps) → acceptedOf (stampedResidence s) ≡ residenceOf s
+accepted-is s = keeps-promise s (stampedResidence s) (says s) ∙ says s
 
 runs : (t : Slots) (es : List (Event StampedCall)) → run stamped t es ≡ run rules t (map handedEvent es)
 runs t [] = refl
@@ -45,5 +70,23 @@ stamped-lawful = record { own = λ c. lawful .own (handed c); want = λ c. lawfu
 pub stamped-order-does-not-matter : StampedOrderDoesNotMatter
 stamped-order-does-not-matter = order-free stamped stamped-lawful
 
+-- the residences of a path are those of the Sync's stamps
+total-append : (f : Stamps → ℕ) (ss rs : List Stamps) → total f (ss ++ rs) ≡ total f ss + total f rs
+total-append f [] rs = omega arith
+total-append f (s ∷ ss) rs = omega (arith, total-append f ss rs)
+
+at-place : (es : List (Event StampedCall)) (k : ℕ) → unitsIn (getElem? (map handedEvent es) k) ≡ total units (stampsIn (getElem? es k))
+at-place [] k = refl
+at-place (tick ∷ es) zero = refl
+at-place (switchover ∷ es) zero = refl
+at-place (call c ∷ es) zero = omega (arith, ap unitsOf (accepted-is (c .stamps)))
+at-place (e ∷ es) (suc k) = at-place es k
+
+along : (path : List StampedStop) → residences (map asStop path) ≡ total units (syncStamps path)
+along [] = refl
+along (n ∷ ns) =
+    omega (arith, at-place (n .events) (n .syncPlace), along ns, total-append units (stampsIn (getElem? (n .events) (n .syncPlace))) (syncStamps ns))
+
 pub stamped-path-sum : StampedPathSum
-stamped-path-sum q s start last path = path-sum q s start last (map asStop path)
+stamped-path-sum q s start last path first second e h w f =
+    path-sum q s start last (map asStop path) first second e h w f ∙ ap (λ (n : ℕ). padOf start +ℤ first +ℤ pos n) (along path)

@@ -1,24 +1,25 @@
 -- Calls with stamps, and their runs: a run of such calls is the run of the same calls with their residences, so that demand 3's
--- theorems (crate `rules`) speak of them too.
-use Prim.Native.Nat.{ℕ}
+-- theorems (crate `rules`) speak of them too. The calls of one list, and the nodes of one path, may have stamps of different formats.
+use Prim.Native.Nat.{ℕ, _+_}
 use mathlib.Core.Path.{_≡_}
 use mathlib.Core.Bool.{Bool, cond}
-use mathlib.Core.List.{List, map}
-use mathlib.Core.Option.{Option}
+use mathlib.Core.List.{List, [], _∷_, _++_, map}
+use mathlib.Core.Option.{Option, none, some}
 use lib.Dec.{eqb}
 use lib.IntN.{ℤ, pos, _+ℤ_}
+use lib.ListN.{getElem?}
 use Rattle.refusal.specs.Answer.{Answer, value, refused}
 use Rattle.residence.specs.declared.Residence.{Residence}
 use Rattle.residence.specs.declared.Residence.the-variants.{Units, InvalidStamp, TooLong}
-use Rattle.stamp.specs.declared.ptp.Stamp.{Stamp}
-use Rattle.stamp.specs.Ptp.{residenceOf}
+use Rattle.stamp.specs.declared.stamps.Stamps.{Stamps}
+use Rattle.stamp.specs.Stamps.{residenceOf}
 use Rattle.records.specs.declared.Identity.{Identity}
 use Rattle.records.specs.Slots.{Slots}
 use Rattle.records.specs.Node.{Node, Event, tick, call, switchover, run, final}
 use Rattle.records.specs.Order.{OrderFree}
 use Rattle.rules.specs.Change.{padOf}
 use Rattle.rules.specs.Rules.{Mode, Call, Reply, Word, sync, kindOf, rules}
-use Rattle.rules.specs.Path.{Stop, Apart, Every, SyncWay, FollowUps, residences}
+use Rattle.rules.specs.Path.{Stop, Apart, Every, SyncWay, FollowUps, unitsOf}
 
 -- the residence whose answer is given: 9 an invalid stamp, 10 too long
 abbrev pub residenceBy : Answer ℕ → Residence
@@ -26,23 +27,22 @@ residenceBy (value u) = Units u
 residenceBy (refused n) = cond (eqb n 9) InvalidStamp TooLong
 
 -- the residence between two stamps, as it goes on to the node's rules
-abbrev pub stampedResidence : Stamp → Stamp → Residence
-stampedResidence entry exit = residenceBy (residenceOf entry exit)
+abbrev pub stampedResidence : Stamps → Residence
+stampedResidence s = residenceBy (residenceOf s)
 
 -- a node call with its stamps
 pub record StampedCall : Type 0 where
   pub mode : Mode
   pub message : List ℕ
-  pub entry : Stamp
-  pub exit : Stamp
+  pub stamps : Stamps
   pub output : List ℕ
 
 -- the same call with its residence
-abbrev pub handedCall : Mode → List ℕ → List ℕ → Stamp → Stamp → Call
-handedCall m s o entry exit = record { mode = m; message = s; residence = stampedResidence entry exit; output = o }
+abbrev pub handedCall : Mode → List ℕ → List ℕ → Stamps → Call
+handedCall m s o stamps = record { mode = m; message = s; residence = stampedResidence stamps; output = o }
 
 abbrev pub handed : StampedCall → Call
-handed c = handedCall (c .mode) (c .message) (c .output) (c .entry) (c .exit)
+handed c = handedCall (c .mode) (c .message) (c .output) (c .stamps)
 
 abbrev pub handedEvent : Event StampedCall → Event Call
 handedEvent tick = tick
@@ -93,6 +93,25 @@ asStop n =
       followUpPlace = n .followUpPlace;
     }
 
+-- the stamps of the Sync's calls along a path
+abbrev pub stampsIn : Option (Event StampedCall) → List Stamps
+stampsIn none = []
+stampsIn (some tick) = []
+stampsIn (some switchover) = []
+stampsIn (some (call c)) = c .stamps ∷ []
+
+abbrev pub syncStamps : List StampedStop → List Stamps
+syncStamps [] = []
+syncStamps (n ∷ ns) = stampsIn (getElem? (n .events) (n .syncPlace)) ++ syncStamps ns
+
+abbrev pub total : (Stamps → ℕ) → List Stamps → ℕ
+total f [] = 0
+total f (s ∷ ss) = f s + total f ss
+
+-- "the stays those of the Sync's calls in pad units": "Demand 3's stays are the rounded ones"
+abbrev pub units : Stamps → ℕ
+units s = unitsOf (residenceOf s)
+
 -- the sum of the pads over a path, for calls with stamps
 abbrev pub StampedPathSum : Type 0
 StampedPathSum =
@@ -101,4 +120,4 @@ StampedPathSum =
     → Every (Apart q) (map asStop path)
     → SyncWay start (map asStop path) last
     → FollowUps q s (map asStop path) first second
-    → padOf last +ℤ second ≡ padOf start +ℤ first +ℤ pos (residences (map asStop path))
+    → padOf last +ℤ second ≡ padOf start +ℤ first +ℤ pos (total units (syncStamps path))

@@ -25,20 +25,20 @@ use Rattle.rules.proofs.PathSums.{path-sum}
 use Rattle.rules.proofs.Samples.{numbered, octetsOf, stayed, spare, handedIn, recordOf, answers, after, visit, Each, each}
 
 -- the Sync's identity, and two others
-abbrev mine : Identity
+abbrev pub mine : Identity
 mine = numbered 258
 
-abbrev theirs : Identity
+abbrev pub theirs : Identity
 theirs = numbered 259
 
 abbrev another : Identity
 another = numbered 260
 
 -- the Sync by its S and pad, and the Follow_Up by its pad
-abbrev aSync : Bool → ℕ → List ℕ
+abbrev pub aSync : Bool → ℕ → List ℕ
 aSync s pad = octetsOf mine s 0 (pos pad)
 
-abbrev aFollowUp : ℕ → List ℕ
+abbrev pub aFollowUp : ℕ → List ℕ
 aFollowUp pad = octetsOf mine true 8 (pos pad)
 
 -- messages with that very port and sequence that have no identity: of PTPTypes 1 and 4, and a Sync of Version 1
@@ -188,20 +188,20 @@ follow-ups =
     (List·Permᴰ·cons refl List·Permᴰ·nil) follow-up-way
 
 -- a call with the Sync's identity stands at the node's two places alone
-abbrev isMine : Option Identity → Bool
+abbrev pub isMine : Option Identity → Bool
 isMine none = false
 isMine (some p) = same p mine
 
-other : {A : Type 0} {o : Option Identity} → isMine o ≡ false → o ≡ some mine → A
+pub other : {A : Type 0} {o : Option Identity} → isMine o ≡ false → o ≡ some mine → A
 unfolding same
 other f e = absurd (true≢false (sym (ap isMine e) ∙ f))
 
-abbrev Placed : Stop → ℕ → Event Call → Type 0
+abbrev pub Placed : Stop → ℕ → Event Call → Type 0
 Placed n k tick = Unit {0}
 Placed n k switchover = Unit {0}
 Placed n k (call c) = kindIdentity (kindOf (c .message)) ≡ some mine → (k ≡ n .syncPlace) ⊎ (some k ≡ n .followUpPlace)
 
-apart : (n : Stop) → find mine (n .table) ≡ none → Each (Placed n) (n .events) → Apart mine n
+pub apart : (n : Stop) → find mine (n .table) ≡ none → Each (Placed n) (n .events) → Apart mine n
 apart n free h = record { free = free; others = λ k c. each (Placed n) (n .events) h k (call c) }
 
 third-apart : Apart mine third

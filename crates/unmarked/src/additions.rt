@@ -6,6 +6,7 @@ use message::layout;
 use message::types;
 use records::Identity;
 use records::Record;
+use stamp::Stamps;
 use stamp::ptp::Stamp;
 use table::Table;
 
@@ -17,8 +18,13 @@ fn at(nanoseconds: u32) -> Stamp {
     }
 }
 
+// The stamps of so many nanoseconds.
+fn within(nanoseconds: u32) -> Stamps {
+    Stamps::Ptp(at(0), at(nanoseconds))
+}
+
 fn update(message: &mut [u8], nanoseconds: u32) {
-    print::answer(rtm::one_step(message, at(0), at(nanoseconds)));
+    print::answer(rtm::one_step(message, within(nanoseconds)));
     print::signed(b", pad ", octets::read_signed(message, layout::SCRATCH_PAD));
     print::text(b"\n");
 }
@@ -54,7 +60,7 @@ fn print_slot(slot: Record) {
 
 fn gather(message: &mut [u8], residence: u64) {
     let mut output = [0u8; 36];
-    let done = rtm::two_step(waiting(residence), message, &mut output, at(0), at(0));
+    let done = rtm::two_step(waiting(residence), message, &mut output, within(0));
     let answer = done.answer;
     let table = done.table;
     let slots = table.slots;

@@ -2,6 +2,7 @@
 // created Follow_Up.
 use crate::messages;
 use crate::print;
+use stamp::Stamps;
 use stamp::ptp::Stamp;
 use table::Table;
 
@@ -33,7 +34,7 @@ fn created(sync: &mut [u8]) {
         nanoseconds: 0,
     };
     let mut output = [0u8; 36];
-    let done = rtm::two_step(Table::new(), sync, &mut output, stamp, stamp);
+    let done = rtm::two_step(Table::new(), sync, &mut output, Stamps::Ptp(stamp, stamp));
     let answer = done.answer;
     print::text(b"header of a Follow_Up, ");
     print::answer(answer);

@@ -1,6 +1,7 @@
 // Runs the cases of document 01 that are not marked for proof, with more of their kind and of those
 // of document 02, and prints a line for each.
 mod additions;
+mod clocks;
 mod headers;
 mod joins;
 mod lengths;
@@ -22,4 +23,6 @@ fn main() {
     joins::run();
     headers::run();
     lengths::run();
+    residences::run_ntp();
+    clocks::run();
 }

@@ -36,7 +36,7 @@ fn load(card: Table, octets: &[u8]) -> Table {
 
 // Writes the table and has another card load it, which holds rubbish; where the write is refused
 // the table stays.
-fn switch(table: Table) -> Table {
+pub(crate) fn switch(table: Table) -> Table {
     let card = Table {
         slots: [waits::record(9, 9, 255); 16],
     };

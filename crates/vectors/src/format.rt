@@ -1,7 +1,6 @@
 // How a case is laid out, and how its line is written.
 use libc::STDOUT_FILENO;
 use node::Answer;
-use stamp::ptp::Stamp;
 ghost use mathlib.Core.Path.{_≡_};
 ghost use lib.ListN.{length};
 
@@ -37,14 +36,6 @@ pub(crate) fn copied<'a>(buffer: &'a mut [u8], s: &[u8]) -> &'a mut [u8] {
     let part = &mut buffer[0..s.len()];
     octets::put(part, 0, s);
     part
-}
-
-// A stamp: its seconds and its nanoseconds.
-pub(crate) fn stamp(s: &[u8]) -> Stamp {
-    Stamp {
-        seconds: octets::read32(s, 0),
-        nanoseconds: octets::read32(s, 4),
-    }
 }
 
 pub(crate) fn text(word: &[u8]) {

@@ -8,6 +8,7 @@ mod lists;
 mod one_step;
 mod read;
 mod residences;
+mod stamps;
 mod tables;
 mod tick;
 mod two_step;
@@ -28,6 +29,9 @@ fn run(operation: u8, body: &[u8]) {
         11 => images::run_load(body),
         12 => read::run_length(body),
         13 => write::run_length(body),
+        14 => residences::run_ntp(body),
+        15 => one_step::run_ntp(body),
+        16 => two_step::run_ntp(body),
         _ => {}
     }
 }

@@ -1,21 +1,18 @@
-// Operation 5: a message at a two-step node.
+// Operations 5 and 16: a message at a two-step node.
 use crate::format;
+use crate::stamps;
 use crate::tables;
+use stamp::Stamps;
 
 // The fields of the body behind the table.
-const ENTRY: usize = 336;
-
-const EXIT: usize = 344;
+const STAMPS: usize = 336;
 
 const ROOM: usize = 352;
 
 const MESSAGE: usize = 354;
 
-fn run_in(message: &mut [u8], out: &mut [u8], body: &[u8]) {
-    let entry = format::stamp(format::after(body, ENTRY));
-    let exit = format::stamp(format::after(body, EXIT));
-    format::text(b"two-step");
-    let done = rtm::two_step(tables::read(body), message, out, entry, exit);
+fn run_in(message: &mut [u8], out: &mut [u8], stamps: Stamps, body: &[u8]) {
+    let done = rtm::two_step(tables::read(body), message, out, stamps);
     let answer = done.answer;
     format::answer(answer);
     format::hex(b" message ", message);
@@ -24,7 +21,7 @@ fn run_in(message: &mut [u8], out: &mut [u8], body: &[u8]) {
     format::text(b"\n");
 }
 
-pub(crate) fn run(body: &[u8]) {
+fn run_with(stamps: Stamps, body: &[u8]) {
     let mut buffer = io::large_buffer();
     let mut out = format::output();
     let room = octets::read16(body, ROOM) as usize;
@@ -32,6 +29,17 @@ pub(crate) fn run(body: &[u8]) {
     run_in(
         format::copied(&mut buffer, message),
         &mut out[0..room],
+        stamps,
         body,
     );
+}
+
+pub(crate) fn run(body: &[u8]) {
+    format::text(b"two-step");
+    run_with(stamps::read_ptp(format::after(body, STAMPS)), body);
+}
+
+pub(crate) fn run_ntp(body: &[u8]) {
+    format::text(b"two-step-ntp");
+    run_with(stamps::read_ntp(format::after(body, STAMPS)), body);
 }

@@ -2,7 +2,7 @@
 -- Assumes nothing.
 use mathlib.Core.Path.{ap, _∙_}
 use Rattle.residence.specs.declared.Residence.{Residence}
-use Rattle.stamp.specs.Ptp.{residenceOf}
+use Rattle.stamp.specs.Stamps.{residenceOf}
 use Rattle.rtm.proofs.Runs.{same-residence}
 use Rattle.rules.specs.Rules.{callOf}
 use Rattle.node.specs.Calls.{twoStepCall}
@@ -10,8 +10,8 @@ use borrow.Author.Needs.{needs}
 use Rattle.rtm.proofs.two_step.Statement.{statement}
 use Rattle.rtm.proofs.two_step.Tie as tie
 
-residence-between-requires : tie.Need-residence-between-requires
-residence-between-requires c κs = search needs
+residence-of-requires : tie.Need-residence-of-requires
+residence-of-requires c κs = search needs
 
 handle-two-step-requires : tie.Need-handle-two-step-requires
 handle-two-step-requires c κs = search needs
@@ -25,14 +25,14 @@ same-length-2 c = search needs
 returns : tie.Need-returns
 returns c =
     let a = c .before .before .before .before .before .before .before .before .before .before .args in
-    let e = same-residence (c .before .before .before .before .before .residence-between .result) (residenceOf (a .entry) (a .exit)) (c .before .before .before .before .before .residence-between .ensures) in
+    let e = same-residence (c .before .before .before .before .before .residence-of .result) (residenceOf (a .stamps)) (c .before .before .before .before .before .residence-of .ensures) in
     c .before .before .before .before .handle-two-step .ensures ∙ ap (λ (x : Residence). callOf (a .table .slots) (twoStepCall (a .message .now) (a .output .now) x)) e
 
 pub two-step-spec : {M : Type 1} → statement M
 two-step-spec =
     tie.close
     (tie.spec
-    residence-between-requires
+    residence-of-requires
     handle-two-step-requires
     same-length
     same-length-2

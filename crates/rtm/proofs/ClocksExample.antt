@@ -1,0 +1,128 @@
+-- Demand 3's sum and the rounding can be met by a path of clocks of both formats: 1,500 ns at a one-step node with PTP stamps, then NTP
+-- differences of 1 and 3 at two two-step nodes. The residences are more than one unit below the exact ones, and less than two.
+-- Assumes nothing.
+use Prim.Native.Nat.{ℕ, _+_, _*_, _<_, _≤_}
+use mathlib.Core.Path.{_≡_, refl}
+use mathlib.Core.Bool.{true, false}
+use mathlib.Core.List.{List, [], _∷_, _++_, List·Permᴰ·nil, List·Permᴰ·cons, map}
+use mathlib.Core.Logic.{inl, inr}
+use mathlib.Core.Option.{none, some}
+use native.Mathlib.Omega.{arith}
+use lib.IntN.{pos, _+ℤ_}
+use lib.ListN.{replicate}
+use Rattle.stamp.specs.declared.stamps.Stamps.{Stamps}
+use Rattle.stamp.specs.declared.stamps.Stamps.the-variants.{Ptp, Ntp}
+use Rattle.stamp.specs.Rounding.{exact}
+use Rattle.records.specs.Slots.{Slots, same, holds, zeros}
+use Rattle.records.specs.Node.{tick, call}
+use Rattle.rules.specs.Change.{padOf}
+use Rattle.rules.specs.Rules.{Mode, oneStep, twoStep, updated, created, waiting, added}
+use Rattle.rules.specs.Path.{Apart, Every, SyncWay, FollowUpWay, FollowUps, born}
+use Rattle.rules.proofs.Samples.{octetsOf, spare, after, visit}
+use Rattle.rules.proofs.PathExample.{mine, theirs, aSync, aFollowUp, apart, other}
+use Rattle.rtm.specs.Stamped.{StampedCall, handed, StampedStop, asStop, syncStamps, total, units}
+use Rattle.rtm.specs.Rounding.{ntpNode}
+use Rattle.rtm.proofs.Runs.{stamped-path-sum}
+use Rattle.rtm.proofs.RoundedPaths.{path-rounded-down}
+
+-- stamps so many nanoseconds apart, and NTP stamps from the largest to 0 s n: n + 1 units of 2^-32 second
+abbrev nanoseconds : ℕ → Stamps
+nanoseconds n = Ptp (record { seconds = 0; nanoseconds = 0 }) (record { seconds = 0; nanoseconds = n })
+
+abbrev pastWrap : ℕ → Stamps
+pastWrap n = Ntp (record { seconds = 4294967295; fraction = 4294967295 }) (record { seconds = 0; fraction = n })
+
+abbrev handedIn : Mode → List ℕ → Stamps → StampedCall
+handedIn m s stamps = record { mode = m; message = s; stamps = stamps; output = spare }
+
+abbrev new : Slots
+new = replicate 16 zeros
+
+-- the calls on the two
+abbrev syncFirst : StampedCall
+syncFirst = handedIn oneStep (aSync false 0) (nanoseconds 1500)
+
+abbrev syncSecond : StampedCall
+syncSecond = handedIn twoStep (aSync false 98304000) (pastWrap 0)
+
+abbrev syncThird : StampedCall
+syncThird = handedIn twoStep (aSync true 98304000) (pastWrap 2)
+
+abbrev followUpThird : StampedCall
+followUpThird = handedIn twoStep (aFollowUp 15258) (nanoseconds 1000000000)
+
+abbrev first : StampedStop
+first = record { mode = oneStep; table = new; events = call syncFirst ∷ []; syncPlace = 0; followUpPlace = none }
+
+abbrev second : StampedStop
+second = record { mode = twoStep; table = new; events = call syncSecond ∷ []; syncPlace = 0; followUpPlace = none }
+
+-- here calls have stamps of both formats
+abbrev third : StampedStop
+third =
+    record {
+      mode = twoStep;
+      table = new;
+      events =
+          call (handedIn oneStep (octetsOf theirs true 0 (pos 0)) (nanoseconds 9))
+          ∷ call syncThird
+          ∷ tick
+          ∷ call (handedIn twoStep (octetsOf theirs true 0 (pos 0)) (pastWrap 9))
+          ∷ call followUpThird
+          ∷ [];
+      syncPlace = 1;
+      followUpPlace = some 4;
+    }
+
+abbrev path : List StampedStop
+path = first ∷ second ∷ third ∷ []
+
+-- the output that the second node leaves
+abbrev left : List ℕ
+left = aFollowUp 15258 ++ replicate 4 0
+
+sync-way : SyncWay (aSync false 0) (map asStop path) (aSync true 98304000)
+unfolding same holds
+sync-way =
+    SyncWay.cross (visit (asStop first) 0 (handed syncFirst) updated (aSync false 98304000) spare refl refl refl)
+    (SyncWay.cross (visit (asStop second) 0 (handed syncSecond) created (aSync true 98304000) left refl refl refl)
+    (SyncWay.cross (visit (asStop third) 1 (handed syncThird) waiting (aSync true 98304000) spare refl refl refl) SyncWay.done))
+
+follow-up-way : FollowUpWay (aFollowUp 15258) (asStop third ∷ []) (aFollowUp 61034)
+unfolding same holds
+follow-up-way = FollowUpWay.cross 4 refl (visit (asStop third) 4 (handed followUpThird) added (aFollowUp 61034) spare refl refl refl) FollowUpWay.done
+
+follow-ups : FollowUps mine false (map asStop path) (pos 0) (padOf (aFollowUp 61034))
+unfolding same holds
+follow-ups =
+    born (asStop first ∷ []) (asStop second) {r = after created (aSync true 98304000) left} {last = aFollowUp 61034} refl refl
+    (List·Permᴰ·cons refl List·Permᴰ·nil) follow-up-way
+
+all-apart : Every (Apart mine) (map asStop path)
+unfolding same holds
+all-apart = (
+  apart (asStop first) refl (λ e. inl refl, tt),
+  (
+    apart (asStop second) refl (λ e. inl refl, tt),
+    (apart (asStop third) refl (other refl, (λ e. inl refl, (tt, (other refl, (λ e. inr refl, tt))))), tt),
+  ),
+)
+
+-- the sum, and its numbers: 98,304,000 + 61,034 = 0 + 0 + (98,304,000 + 15,258 + 45,776)
+sum : padOf (aSync true 98304000) +ℤ padOf (aFollowUp 61034) ≡ padOf (aSync false 0) +ℤ pos 0 +ℤ pos (total units (syncStamps path))
+sum = stamped-path-sum mine false (aSync false 0) (aSync true 98304000) path (pos 0) (padOf (aFollowUp 61034)) refl all-apart sync-way follow-ups
+
+residences : total units (syncStamps path) ≡ 98304000 + 15258 + 45776
+residences = refl
+
+in-numbers : pos 98304000 +ℤ pos 61034 ≡ pos 0 +ℤ pos 0 +ℤ pos 98365034
+in-numbers = sum
+
+-- the rounding, and its numbers: 75,776 below, which is more than 65,536 and less than twice that
+rounded :
+    (total units (syncStamps path) * 65536 ≤ total exact (syncStamps path))
+    × (total exact (syncStamps path) < (total units (syncStamps path) + 2) * 65536)
+rounded = path-rounded-down mine false (aSync false 0) (aSync true 98304000) path 2 refl sync-way refl (omega arith)
+
+exactly : total exact (syncStamps path) ≡ total units (syncStamps path) * 65536 + 75776
+exactly = refl
