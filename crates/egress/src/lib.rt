@@ -1,12 +1,12 @@
 // Joining at the egress (document 01, Writing and joining): the total of a Sync's pad and its
 // Follow_Up's, and the packet shown.
 use message::Header;
-use message::Reading;
 use message::SubTlv;
 use message::types;
+use reader::Reading;
 use scratch_pad::Sum;
 ghost use mathlib.Core.Path.{_≡_};
-ghost use Rattle.message.specs.Answers.{readAnswer};
+ghost use Rattle.reader.specs.Answers.{readAnswer};
 ghost use Rattle.refusal.specs.Answer.{value};
 ghost use Rattle.message.specs.Read.{ptp};
 ghost use Rattle.egress.specs.Join.{alike, isPair, joinBy, joinOf, orElse, shownOf, joinAnswer};
@@ -72,9 +72,9 @@ fn join_to(h: Header, t: SubTlv, follow_up: Reading) -> Joined
 pub fn join(sync: &[u8], follow_up: &[u8]) -> Joined
     ensures { λ r. ⌜ joinAnswer r ≡ joinOf (now (sync .entry)) (now («follow_up» .entry)) ⌝ }
 {
-    match message::read(sync) {
-        Reading::Ptp(h, t) => join_to(h, t, message::read(follow_up)),
-        Reading::Plain(_) => match message::read(follow_up) {
+    match reader::read(sync) {
+        Reading::Ptp(h, t) => join_to(h, t, reader::read(follow_up)),
+        Reading::Plain(_) => match reader::read(follow_up) {
             Reading::Refused(n) => Joined::Refused(n),
             Reading::Plain(_) => Joined::Refused(refusal::NOT_A_PAIR),
             Reading::Ptp(_, _) => Joined::Refused(refusal::NOT_A_PAIR),
@@ -97,7 +97,7 @@ pub fn shown<'a>(sync: &'a [u8], follow_up: &'a [u8]) -> &'a [u8]
     ensures { λ r. ⌜ now r ≡ shownOf (now (sync .entry)) (now («follow_up» .entry)) ⌝ }
 {
     match join(sync, follow_up) {
-        Joined::Total(_) => or_else(message::carried(follow_up), message::carried(sync)),
+        Joined::Total(_) => or_else(reader::carried(follow_up), reader::carried(sync)),
         Joined::Refused(_) => &sync[..0],
     }
 }

@@ -5,6 +5,7 @@ use mathlib.Core.List.{List, [], _∷_, _++_, map}
 use lib.Dec.{ltb, leb}
 use lib.ListN.{length, getD, drop, replicate}
 use Rattle.refusal.specs.Answer.{Answer, value, refused, refuse, andThen}
+use Rattle.refusal.specs.Written.{Write}
 use Rattle.residence.specs.Residence.{limit}
 use Rattle.records.specs.declared.Identity.{Identity}
 use Rattle.records.specs.declared.Record.{Record}
@@ -55,10 +56,6 @@ imageOf t = refuse 22 (not (loadable (recordsOf t))) (value (imageOctets form (m
 
 -- Writing it to a lent output: 12 "for a small output", "22 first". It tells the size written; octets beyond stay, and a refusal
 -- leaves the output as it came.
-pub record Write : Type 0 where
-  pub answer : Answer ℕ
-  pub output : List ℕ
-
 abbrev pub fitting : List ℕ → List ℕ → Answer (List ℕ)
 fitting out s = refuse 12 (ltb (length out) (length s)) (value s)
 
@@ -79,6 +76,19 @@ recordsAt s = map recordOf (bodiesIn form s)
 -- The table that a string of octets loads; 22 "for any other image".
 abbrev pub loadOf : List ℕ → Answer Slots
 loadOf s = refuse 22 (not (isLaidOut form s && loadable (recordsAt s))) (value (filled (recordsAt s)))
+
+-- Loading it over a table, by the answer (0 says that it was loaded) and the slots afterwards: "A load replaces the table"; a refusal
+-- leaves the one that came.
+pub record Load : Type 0 where
+  pub answer : Answer ℕ
+  pub slots : Slots
+
+abbrev pub loadBy : Slots → Answer Slots → Load
+loadBy t (value u) = record { answer = value 0; slots = u }
+loadBy t (refused n) = record { answer = refused n; slots = t }
+
+abbrev pub loadInto : List ℕ → Slots → Load
+loadInto s t = loadBy t (loadOf s)
 
 -- A switchover: the table is written, and the image loaded by the card that takes over. Where the write is refused there is none, and
 -- the table stays as it is.

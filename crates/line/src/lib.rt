@@ -2,8 +2,8 @@
 mod place;
 
 use message::Header;
-use message::Reading;
 use message::SubTlv;
+use reader::Reading;
 ghost use mathlib.Core.Path.{_≡_};
 ghost use Prim.Native.Nat.{_+_, _≤_};
 ghost use lib.ListN.{take, drop};
@@ -41,8 +41,8 @@ pub fn line(message: &[u8], out: &mut [u8; ROOM]) -> usize
     ensures { λ r. ⌜ drop r (now (out .exit)) ≡ drop r (now (out .entry)) ⌝ }
     ensures { λ r. ⌜ Counts r (now (out .exit)) ⌝ }
 {
-    let size = message::carried(message).len() as u64;
-    match message::read(message) {
+    let size = reader::carried(message).len() as u64;
+    match reader::read(message) {
         Reading::Plain(header) => {
             let none = header_words(out, header);
             let carried = place::text(out, none, b" s - kind - seq -");

@@ -1,4 +1,3 @@
-pub mod Answers
 pub mod Read
 pub mod RoundTrip
 pub mod Write

@@ -6,6 +6,7 @@ use lib.Dec.{ltb, leb, eqb}
 use lib.ListN.{length, drop}
 use Rattle.octets.specs.Octets.{octets, signedOctets}
 use Rattle.refusal.specs.Answer.{Answer, value, refused, refuse}
+use Rattle.refusal.specs.Written.{Write}
 use Rattle.message.specs.declared.fields.Header.{Header}
 use Rattle.message.specs.declared.fields.SubTlv.{SubTlv}
 use Rattle.message.specs.declared.fields.Fields.{Fields}
@@ -68,11 +69,6 @@ sizeOf t s carried room =
     (refuse 7 (eqb t 1 && ltb 0 carried)
     (fitOf (carriedAt t + carried) room))))
 
--- the answer and the output afterwards
-pub record Write : Type 0 where
-  pub answer : Answer ℕ
-  pub output : List ℕ
-
 -- "octets beyond stay"; a refusal leaves the output as it came
 abbrev pub outputBy : Fields → List ℕ → List ℕ → Answer ℕ → List ℕ
 outputBy f carried out (value n) = messageOctets f carried ++ drop n out
@@ -81,5 +77,6 @@ outputBy f carried out (refused n) = out
 abbrev pub answerOf : Fields → List ℕ → List ℕ → Answer ℕ
 answerOf f carried out = sizeOf (f .header .«message_type») (f .«sub_tlv») (length carried) (length out)
 
+-- the answer and the output afterwards
 abbrev pub writeOf : Fields → List ℕ → List ℕ → Write
 writeOf f carried out = record { answer = answerOf f carried out; output = outputBy f carried out (answerOf f carried out) }

@@ -30,7 +30,7 @@ pub struct Fields {
 }
 
 // Whether a sub-TLV may state this length.
-pub(crate) fn is_sub_tlv_length(length: u16) -> bool
+pub fn is_sub_tlv_length(length: u16) -> bool
     ensures { λ r. ⌜ r ≡ isSubTlvLength length ⌝ }
 {
     if length == layout::PTP_SUB_TLV_VALUE_LENGTH {

@@ -1,7 +1,7 @@
 // What a node makes of a message as read.
-use message::Reading;
 use message::SubTlv;
 use message::types;
+use reader::Reading;
 use records::Identity;
 ghost use mathlib.Core.Path.{_≡_};
 ghost use Rattle.rules.specs.Rules.{ptpKind, kindOf};
@@ -42,7 +42,7 @@ fn of_ptp(sub_tlv: SubTlv) -> Handling
 pub(crate) fn classify(message: &[u8]) -> Handling
     ensures { λ r. ⌜ kindAnswer r ≡ kindOf (now (message .entry)) ⌝ }
 {
-    match message::read(message) {
+    match reader::read(message) {
         Reading::Plain(_) => Handling::Timed,
         Reading::Ptp(_, sub_tlv) => of_ptp(sub_tlv),
         Reading::Refused(n) => Handling::Unreadable(n),

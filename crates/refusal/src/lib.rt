@@ -1,4 +1,11 @@
-// The refusal numbers (document 01, Refusal numbers), each named once.
+// The refusal numbers (document 01, Refusal numbers), each named once, and the answer of whatever is
+// written to a lent output.
+
+// The size written, or the number of the refusal.
+pub enum Written {
+    Size(usize),
+    Refused(u8),
+}
 
 // Reading a message.
 pub const TOO_SHORT: u8 = 1;

@@ -1,2 +1,3 @@
+pub mod Reloads
 pub mod Search
 pub mod Sweep

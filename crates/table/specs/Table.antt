@@ -1,14 +1,12 @@
 -- The table's operations: each gives its answer, in document 01's numbers, with the slots afterwards.
 use Prim.Native.Nat.{ℕ}
 use mathlib.Core.Bool.{true}
-use mathlib.Core.List.{List}
 use Rattle.refusal.specs.Answer.{Answer, value, refused}
 use Rattle.records.specs.declared.Identity.{Identity}
 use Rattle.records.specs.Slots.{Slots, ticked, emptied}
 use Rattle.records.specs.Node.{Request, add, collect, tableAnswer, tableAfter}
-use Rattle.image.specs.declared.loader.Loading.{Loading}
-use Rattle.image.specs.declared.loader.Loading.the-variants as loading
-use Rattle.image.specs.Image.{loadOf}
+use Rattle.image.specs.Image.{Load}
+use Rattle.switchover.specs.Answers.{loadingAnswer}
 use Rattle.table.specs.declared.Entry.{Entry}
 use Rattle.table.specs.declared.Entry.the-variants as entry
 use Rattle.table.specs.declared.Found.{Found}
@@ -55,17 +53,6 @@ collectOf q t = requestOf (collect q) t
 abbrev pub tickOf : Slots → Outcome
 tickOf t = record { answer = value (emptied t); slots = ticked t }
 
--- loading an image: "A load replaces the table"; a refusal leaves the one that came
-abbrev pub loadingAnswer : Loading → Answer ℕ
-loadingAnswer loading.Replaced = value 0
-loadingAnswer (loading.Refused n) = refused n
-
-abbrev pub reloaded : Reloaded → Outcome
+-- loading an image, which leaves the table that came where it is refused (`image` Image.`loadInto`)
+abbrev pub reloaded : Reloaded → Load
 reloaded r = record { answer = loadingAnswer (r .answer); slots = r .table .slots }
-
-abbrev pub loadBy : Slots → Answer Slots → Outcome
-loadBy t (value u) = record { answer = value 0; slots = u }
-loadBy t (refused n) = record { answer = refused n; slots = t }
-
-abbrev pub loadInto : List ℕ → Slots → Outcome
-loadInto s t = loadBy t (loadOf s)

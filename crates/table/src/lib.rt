@@ -1,17 +1,17 @@
 // The table of waiting records, 16 slots by value (document 01: "The table is handed in and handed
 // back by each operation"). Every table value is good input.
-use image::Loading;
-use image::Written;
 use records::Identity;
 use records::Record;
+use refusal::Written;
+use switchover::Loading;
 ghost use mathlib.Core.Path.{_≡_};
 ghost use lib.ListN.{replicate};
 ghost use Rattle.records.specs.Slots.{empty, holds, zeros, lowest, aged};
 ghost use Rattle.records.specs.Node.{tableAnswer};
 ghost use Rattle.records.specs.Node.{collect as collect·request};
-ghost use Rattle.image.specs.Image.{writeOf};
-ghost use Rattle.image.specs.Answers.{written};
-ghost use Rattle.table.specs.Table.{addOf, collectOf, tickOf, foundAnswer, entered, taken, counted, loadInto, reloaded};
+ghost use Rattle.refusal.specs.Written.{written};
+ghost use Rattle.image.specs.Image.{writeOf, loadInto};
+ghost use Rattle.table.specs.Table.{addOf, collectOf, tickOf, foundAnswer, entered, taken, counted, reloaded};
 
 pub struct Table {
     pub slots: [Record; 16],
@@ -212,7 +212,7 @@ impl Table {
         ensures { λ r. ⌜ written r (now (out .exit)) ≡ writeOf (self .slots) (now (out .entry)) ⌝ }
     {
         let slots = self.slots;
-        image::write(slots, out)
+        switchover::write(slots, out)
     }
 
     // The table that an image loads: its records from slot 0 on, in its order, and zeros. Refusal
@@ -220,7 +220,7 @@ impl Table {
     pub fn load(self, octets: &[u8]) -> Reloaded
         ensures { λ r. ⌜ reloaded r ≡ loadInto (now (octets .entry)) (self .slots) ⌝ }
     {
-        let loaded = image::load(octets);
+        let loaded = switchover::load(octets);
         let slots = loaded.slots;
         let answer = loaded.answer;
         match answer {

@@ -2,18 +2,18 @@
 // created Follow_Up.
 use crate::messages;
 use crate::print;
-use message::Reading;
-use message::Written;
+use reader::Reading;
+use refusal::Written;
 use residence::Residence;
 use table::Table;
 
 fn read(message: &[u8]) {
-    match message::read(message) {
+    match reader::read(message) {
         Reading::Plain(_) => print::text(b"length -"),
         Reading::Ptp(_, sub_tlv) => print::number(b"length ", sub_tlv.length as u64),
         Reading::Refused(n) => print::refused(n),
     }
-    print::hex(b", packet ", message::carried(message));
+    print::hex(b", packet ", reader::carried(message));
 }
 
 fn create(sync: &mut [u8]) {
@@ -31,7 +31,7 @@ fn show(length: u16) {
     print::number(b"sub-TLV's length ", length as u64);
     print::text(b": ");
     let mut message = [0u8; 38];
-    match message::write(&mut message, messages::of_length(3, 0, length), b"\x0A\x0B") {
+    match writer::write(&mut message, messages::of_length(3, 0, length), b"\x0A\x0B") {
         Written::Size(_) => {
             read(&message);
             create(&mut message);

@@ -1,10 +1,10 @@
-// Messages of one port, as `message::write` writes them.
+// Messages of one port, as `writer::write` writes them.
 use message::Fields;
 use message::Header;
 use message::SubTlv;
-use message::Written;
 use message::layout;
 use message::types;
+use refusal::Written;
 
 pub(crate) const CLOCK: u64 = 0x0001_0203_0405_0607;
 
@@ -55,7 +55,7 @@ pub(crate) fn with_flag(ptp_type: u8, sequence: u16, pad: i64) -> Fields {
 
 // Writes a message at the start of the buffer and answers its size, 0 where it is refused.
 pub(crate) fn write(buffer: &mut [u8], fields: Fields, carried: &[u8]) -> usize {
-    match message::write(buffer, fields, carried) {
+    match writer::write(buffer, fields, carried) {
         Written::Size(n) => n,
         Written::Refused(_) => 0,
     }

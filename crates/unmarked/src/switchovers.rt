@@ -2,10 +2,10 @@
 use crate::messages;
 use crate::print;
 use crate::waits;
-use image::Loading;
-use image::Written;
 use message::types;
 use records::Record;
+use refusal::Written;
+use switchover::Loading;
 use table::Table;
 
 // The largest image, of 16 records.

@@ -1,8 +1,8 @@
 // Operations 10 and 11: the image of a table, written and loaded.
 use crate::format;
 use crate::tables;
-use image::Loading;
-use image::Written;
+use refusal::Written;
+use switchover::Loading;
 use table::Table;
 
 // Where the room stands in the body, behind the table.

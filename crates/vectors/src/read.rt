@@ -2,8 +2,8 @@
 use crate::format;
 use libc::STDOUT_FILENO;
 use message::Header;
-use message::Reading;
 use message::SubTlv;
+use reader::Reading;
 
 pub(crate) fn run(body: &[u8]) {
     let message = format::counted(body);
@@ -16,21 +16,21 @@ pub(crate) fn run_length(body: &[u8]) {
     let message = format::counted(body);
     format::text(b"read-length");
     print(message);
-    print_length(message::read(message));
+    print_length(reader::read(message));
     format::text(b"\n");
 }
 
 fn print(message: &[u8]) {
-    match message::read(message) {
+    match reader::read(message) {
         Reading::Plain(header) => {
             print_header(header);
             format::text(b" s - kind - port - seq -");
-            format::hex(b" carried ", message::carried(message));
+            format::hex(b" carried ", reader::carried(message));
         }
         Reading::Ptp(header, sub_tlv) => {
             print_header(header);
             print_sub_tlv(sub_tlv);
-            format::hex(b" carried ", message::carried(message));
+            format::hex(b" carried ", reader::carried(message));
         }
         Reading::Refused(n) => format::refused(n),
     }

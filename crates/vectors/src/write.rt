@@ -3,8 +3,8 @@ use crate::format;
 use message::Fields;
 use message::Header;
 use message::SubTlv;
-use message::Written;
 use message::layout;
+use refusal::Written;
 
 // The fields of the body, in their order: Type (2), pad (8), s (1), PTPType (1), port (10),
 // sequence (2). The sub-TLV's length is given apart.
@@ -26,7 +26,7 @@ fn fields(body: &[u8], length: u16) -> Fields {
 }
 
 fn write_in(out: &mut [u8], fields: Fields, carried: &[u8]) {
-    match message::write(out, fields, carried) {
+    match writer::write(out, fields, carried) {
         Written::Size(n) => format::number(b" size ", n as u64),
         Written::Refused(n) => format::refused(n),
     }

@@ -3,7 +3,7 @@
 use mathlib.Core.Path.{sym, ap, _∙_}
 use Rattle.refusal.specs.Answer.{Answer}
 use Rattle.message.specs.Read.{Message, readOf}
-use Rattle.message.specs.Answers.{readAnswer}
+use Rattle.reader.specs.Answers.{readAnswer}
 use Rattle.egress.specs.Join.{joinBy}
 use borrow.Author.Needs.{needs}
 use Rattle.egress.proofs.join.Statement.{statement}

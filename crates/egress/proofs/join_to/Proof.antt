@@ -7,9 +7,9 @@ use mir.ValLaws.{toZ-ofZ}
 use Rattle.refusal.specs.Answer.{Answer, value}
 use Rattle.message.specs.declared.fields.Header.{Header}
 use Rattle.message.specs.declared.fields.SubTlv.{SubTlv}
-use Rattle.message.specs.declared.reader.Reading.{Reading}
+use Rattle.reader.specs.declared.Reading.{Reading}
 use Rattle.message.specs.Read.{ptp}
-use Rattle.message.specs.Answers.{readAnswer}
+use Rattle.reader.specs.Answers.{readAnswer}
 use Rattle.scratch_pad.specs.Sum.{sumOf, sumAnswer}
 use borrow.Author.Tests.{not-true, not-false}
 use mathlib.Core.Bool.{true, false, not}

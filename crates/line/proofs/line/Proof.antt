@@ -7,7 +7,7 @@ use lib.ListN.{length, take, drop}
 use Rattle.io.specs.Counts.{Counts}
 use Rattle.refusal.specs.Answer.{Answer}
 use Rattle.message.specs.Read.{Message, readOf, carriedOf}
-use Rattle.message.specs.Answers.{readAnswer}
+use Rattle.reader.specs.Answers.{readAnswer}
 use Rattle.line.specs.Line.{lineBy, lineOf}
 use Rattle.line.specs.Placed.{Placed}
 use Rattle.line.proofs.Placing.{then, at-start}

@@ -2,7 +2,7 @@
 -- Assumes nothing.
 use mathlib.Core.Path.{sym, ap, _∙_}
 use Rattle.rules.specs.Rules.{kindBy}
-use Rattle.message.specs.Answers.{readAnswer}
+use Rattle.reader.specs.Answers.{readAnswer}
 use borrow.Author.Needs.{needs}
 use Rattle.node.proofs.kind.classify.Statement.{statement}
 use Rattle.node.proofs.kind.classify.Tie as tie

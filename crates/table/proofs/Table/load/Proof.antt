@@ -1,10 +1,13 @@
 -- `Table::load` meets its contract: the image's slots where it loads, and the slots that came where it is refused.
 -- Assumes nothing.
 use mathlib.Core.Path.{sym, ap, _∙_}
+use lib.ListN.{replicate}
 use borrow.Author.Needs.{needs}
-use Rattle.image.specs.declared.loader.Loading.{Loading}
-use Rattle.image.specs.Answers.{loadedBy}
-use Rattle.table.specs.Table.{loadBy}
+use Rattle.records.specs.Slots.{zeros}
+use Rattle.image.specs.Image.{Load, loadOf}
+use Rattle.switchover.specs.declared.loader.Loading.{Loading}
+use Rattle.switchover.specs.Answers.{loadingAnswer}
+use Rattle.table.proofs.Reloads.{loaded-alike, refused-alike}
 use Rattle.table.proofs.Table.load.Statement.{statement}
 use Rattle.table.proofs.Table.load.Tie as tie
 
@@ -20,14 +23,16 @@ enum-known-answer c = search needs
 returns : tie.Need-returns
 returns c =
     let p = c .before .before .before in
-    ap (loadBy (p .before .before .args .self .slots))
-    (ap (λ (a : Loading). loadedBy a (p .load .result .slots)) (sym (c .enum-told .given .1)) ∙ p .load .ensures)
+    let l = p .load .result .slots in
+    loaded-alike (p .before .before .args .self .slots) (replicate 16 zeros) l (loadOf (p .before .before .args .octets .now))
+    (ap (λ (a : Loading). record { answer = loadingAnswer a; slots = l }) (sym (c .enum-told .given .1)) ∙ p .load .ensures)
 
 returns-2 : tie.Need-returns-2
 returns-2 c =
     let p = c .before .before .before .before in
-    ap (loadBy (p .before .before .args .self .slots))
-    (ap (λ (a : Loading). loadedBy a (p .load .result .slots)) (sym (c .before .answer .given .1)) ∙ p .load .ensures)
+    let l = p .load .result .slots in
+    refused-alike (p .before .before .args .self .slots) (replicate 16 zeros) l (c .before .answer .given .0 .0) (loadOf (p .before .before .args .octets .now))
+    (ap (λ (a : Loading). record { answer = loadingAnswer a; slots = l }) (sym (c .before .answer .given .1)) ∙ p .load .ensures)
 
 pub load-spec : {M : Type 1} → statement M
 load-spec = tie.close (tie.spec load-requires enum-told enum-known-answer returns returns-2)

@@ -1,0 +1,72 @@
+-- `record_at` meets its contract: each field is read where the fields before it end.
+-- Assumes nothing.
+use Prim.Native.Nat.{_+_}
+use mathlib.Core.Path.{_≡_, ap, _∙_}
+use borrow.Author.Needs.{needs}
+use native.Mathlib.Omega.{arith}
+use Rattle.octets.specs.Octets.{number}
+use Rattle.switchover.proofs.bodies.record_at.Statement.{statement}
+use Rattle.switchover.proofs.bodies.record_at.Tie as tie
+
+add-read64 : tie.Need-add-read64
+add-read64 c = search needs
+
+read64-requires : tie.Need-read64-requires
+read64-requires c κs = search needs
+
+add-read16 : tie.Need-add-read16
+add-read16 c = search needs
+
+read16-requires : tie.Need-read16-requires
+read16-requires c κs = search needs
+
+add-read16-2 : tie.Need-add-read16-2
+add-read16-2 c = search needs
+
+read16-requires-2 : tie.Need-read16-requires-2
+read16-requires-2 c κs = search needs
+
+add-read64-2 : tie.Need-add-read64-2
+add-read64-2 c = search needs
+
+read64-requires-2 : tie.Need-read64-requires-2
+read64-requires-2 c κs = search needs
+
+add-read8 : tie.Need-add-read8
+add-read8 c = search needs
+
+read8-requires : tie.Need-read8-requires
+read8-requires c κs = search needs
+
+returns : tie.Need-returns
+returns c =
+    let a = c .before .before .before .before .before .before .args in
+    let s = a .image .now in
+    let clock-at : a .at + 0 ≡ a .at = omega arith in
+    let sequence-at : a .at + 10 ≡ a .at + 8 + 2 = omega arith in
+    let residence-at : a .at + 12 ≡ a .at + 8 + 2 + 2 = omega arith in
+    let wait-at : a .at + 20 ≡ a .at + 8 + 2 + 2 + 8 = omega arith in
+    λ i.
+    record {
+      clock = (c .before .before .before .before .read64 .ensures ∙ ap (number 8 s) clock-at) i;
+      port = c .before .before .before .read16 .ensures i;
+      sequence = (c .before .before .read162 .ensures ∙ ap (number 2 s) sequence-at) i;
+      residence = (c .before .read642 .ensures ∙ ap (number 8 s) residence-at) i;
+      wait = (c .read8 .ensures ∙ ap (number 1 s) wait-at) i;
+    }
+
+pub record-at-spec : {M : Type 1} → statement M
+record-at-spec =
+    tie.close
+    (tie.spec
+    add-read64
+    read64-requires
+    add-read16
+    read16-requires
+    add-read16-2
+    read16-requires-2
+    add-read64-2
+    read64-requires-2
+    add-read8
+    read8-requires
+    returns)

@@ -1,0 +1,74 @@
+-- `load` meets its contract: each test on the way to a refusal is one that `loadOf` makes, and the slots read are its records.
+-- Assumes nothing.
+use mathlib.Core.Path.{_≡_, refl, sym, ap, _∙_}
+use mathlib.Core.Bool.{true, false}
+use borrow.Author.Tests.{not-true, not-false}
+use native.Mathlib.Omega.{arith}
+use lib.ListN.{replicate}
+use Rattle.refusal.specs.Answer.{Answer, value}
+use Rattle.records.specs.Slots.{Slots, zeros}
+use Rattle.image.specs.Layout.{isLaidOut}
+use Rattle.image.specs.Image.{form, loadable, recordsAt, loadBy}
+use Rattle.image.proofs.Returns.{load-taken}
+use Rattle.switchover.specs.Answers.{loaded}
+use Rattle.switchover.proofs.Loads.{unlaid, unloadable, too-many, not-loaded, read-filled, read-records}
+use borrow.Author.Needs.{needs}
+use Rattle.switchover.proofs.loader.load.Statement.{statement}
+use Rattle.switchover.proofs.loader.load.Tie as tie
+
+returns : tie.Need-returns
+returns c =
+    let z = c .before .before .before in
+    let s = z .before .before .args .image .now in
+    not-loaded s (z .zeros .result) (loaded (c .not-loaded .result)) (z .zeros .ensures) (c .not-loaded .ensures) (too-many s (omega arith))
+
+returns-2 : tie.Need-returns-2
+returns-2 c =
+    let p = c .before .before in
+    let z = p .before .before .before in
+    let s = z .before .before .args .image .now in
+    let e : isLaidOut form s ≡ false = sym (p .is-laid-out .ensures) ∙ not-true _ (c .before .if2 .taken) in
+    not-loaded s (z .zeros .result) (loaded (c .not-loaded2 .result)) (z .zeros .ensures) (c .not-loaded2 .ensures) (unlaid s e)
+
+-- whether the records can be loaded is what `are_loadable` says of the slots read
+judged : (c : tie.After-are-loadable) → loadable (recordsAt (c .before .before .before .before .before .before .before .before .args .image .now)) ≡ c .are-loadable .result
+judged c =
+    let b = c .before in
+    let n = b .before .before .before .before in
+    let s = n .before .before .before .args .image .now in
+    ap loadable (sym (read-records s (n .count .result) (b .read-bodies .result) (n .count .ensures) (b .read-bodies .ensures))) ∙ sym (c .are-loadable .ensures)
+
+returns-3 : tie.Need-returns-3
+returns-3 c =
+    let p = c .before in
+    let b = p .before in
+    let n = b .before .before .before .before in
+    let s = n .before .before .before .args .image .now in
+    let laid : isLaidOut form s ≡ true = sym (b .before .before .is-laid-out .ensures) ∙ not-false _ (b .before .if2 .left) in
+    let l = b .read-bodies .result in
+    ap (λ (a : Answer Slots). loadBy (replicate 16 zeros) a)
+    (ap value (read-filled s (n .count .result) l (n .count .ensures) (b .read-bodies .ensures)) ∙ sym (load-taken s (recordsAt s) laid refl (judged p ∙ c .if3 .taken)))
+
+returns-4 : tie.Need-returns-4
+returns-4 c =
+    let p = c .before .before in
+    let z = p .before .before .before .before .before .before in
+    let s = z .before .before .args .image .now in
+    not-loaded s (z .zeros .result) (loaded (c .not-loaded3 .result)) (z .zeros .ensures) (c .not-loaded3 .ensures) (unloadable s (judged p ∙ c .before .if3 .left))
+
+pub load-spec : {M : Type 1} → statement M
+load-spec =
+    tie.close
+    (tie.spec
+    (λ c κs. search needs)
+    (λ c κs. search needs)
+    (λ c κs. search needs)
+    returns
+    (λ c κs. search needs)
+    (λ c κs. search needs)
+    returns-2
+    (λ c κs. search needs)
+    (λ c κs. search needs)
+    returns-3
+    (λ c κs. search needs)
+    returns-4)

@@ -1,0 +1,13 @@
+// The table's records as an image, for the control card that takes over (document 02, W-201): written
+// and loaded. What an image is stands in the crate `image`.
+mod bodies;
+mod contents;
+mod layout;
+mod listing;
+mod loader;
+mod writer;
+
+pub use loader::Loaded;
+pub use loader::Loading;
+pub use loader::load;
+pub use writer::write;
