@@ -1,3 +1,4 @@
 pub mod Accepted
+pub mod Port
 pub mod RoundTrip
 pub mod Sound

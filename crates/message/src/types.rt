@@ -14,8 +14,6 @@ pub const SYNC: u8 = 0;
 
 pub const DELAY_REQ: u8 = 1;
 
-pub const PDELAY_REQ: u8 = 2;
-
 pub const PDELAY_RESP: u8 = 3;
 
 pub const FOLLOW_UP: u8 = 8;

@@ -1,12 +1,13 @@
--- Numbers and their octets, over the width: what is written is read back, at any place; and a part is read as the whole is.
+-- Numbers and their octets, over the width: what is written is read back, at any place, and what is read is written as it was; and a
+-- part is read as the whole is.
 -- Assumes nothing.
-use Prim.Native.Nat.{ℕ, zero, suc, _+_, _/_, _%_, _^_, _<_}
-use mathlib.Core.Path.{_≡_, refl, ap, _∙_}
+use Prim.Native.Nat.{ℕ, zero, suc, _+_, _*_, _/_, _%_, _^_, _<_, _≤_}
+use mathlib.Core.Path.{_≡_, refl, sym, ap, _∙_}
 use mathlib.Core.List.{List, [], _∷_, _++_, append-assoc}
 use native.Mathlib.Nat.{pow-suc, add-assoc}
 use native.Mathlib.Omega.{arith}
-use lib.ListN.{length, getD, drop, length-append}
-use lib.Seq.{getD-at, getD-drop}
+use lib.ListN.{length, getD, take, drop, length-append, length-drop}
+use lib.Seq.{getD-at, getD-take, getD-drop, take-suc}
 use Rattle.octets.specs.Octets.{number, octets}
 
 pub length-octets : (w x : ℕ) → length (octets w x) ≡ w
@@ -32,3 +33,21 @@ number-octets (suc w) x i p q e h =
 pub number-drop : (w n i : ℕ) (s : List ℕ) → number w (drop n s) i ≡ number w s (n + i)
 number-drop zero n i s = refl
 number-drop (suc w) n i s = rw (number-drop w n i s, getD-drop n s (i + w) 0, add-assoc)
+
+-- and of the first n octets
+pub number-take : (w n i : ℕ) (s : List ℕ) → i + w ≤ n → number w (take n s) i ≡ number w s i
+number-take zero n i s h = refl
+number-take (suc w) n i s h = rw (number-take w n i s (omega arith), getD-take n s (i + w) 0 (omega arith))
+
+-- the octets of a number that was read are those it was read from
+pub octets-number : (s : List ℕ) → ((i : ℕ) → getD s i 0 < 256) → (w i : ℕ) → i + w ≤ length s → octets w (number w s i) ≡ take w (drop i s)
+octets-number s low zero i h = refl
+octets-number s low (suc w) i h =
+    let x = number w s i in
+    let b = getD s (i + w) 0 in
+    let l = low (i + w) in
+    let high : (x * 256 + b) / 256 ≡ x = omega arith in
+    let last : (x * 256 + b) % 256 ≡ b = omega arith in
+    rw (high, last, octets-number s low w i (omega arith))
+    (ap (λ (y : ℕ). take w (drop i s) ++ (y ∷ [])) (sym (getD-drop i s w 0))
+    ∙ sym (take-suc (drop i s) w 0 (omega (arith, length-drop i s))))
