@@ -8,3 +8,4 @@ pub mod PathSums
 pub mod Samples
 pub mod PathExample
 pub mod OrderExample
+pub mod BranchExamples

@@ -1,0 +1,210 @@
+-- The branches of demand 3 that document 01's path does not take can be met: a path with S set at the start, whose Follow_Up takes
+-- its nodes in another order than the Sync; a path on which no node creates a Follow_Up; and a record that is gone at its third tick.
+-- Assumes nothing.
+use Prim.Native.Nat.{ℕ, _*_, _<_}
+use mathlib.Core.Path.{_≡_, refl, sym, ap, _∙_}
+use mathlib.Core.Bool.{true, false}
+use mathlib.Core.List.{List, [], _∷_, List·Permᴰ, List·Permᴰ·nil, List·Permᴰ·cons, List·Permᴰ·swap, List·Permᴰ·trans}
+use mathlib.Core.Logic.{_⊎_, inl, inr}
+use mathlib.Core.Option.{none, some}
+use native.Mathlib.Omega.{arith}
+use lib.IntN.{ℤ, pos, negsuc, _+ℤ_}
+use lib.ListN.{take, replicate, getElem?}
+use Rattle.refusal.specs.Answer.{Answer, value, refused}
+use Rattle.residence.specs.declared.Residence.the-variants.{InvalidStamp}
+use Rattle.records.specs.Slots.{Slots, same, holds, zeros, find}
+use Rattle.records.specs.Node.{Event, tick, call, switchover, replied, run, final}
+use Rattle.image.specs.Image.{sound, differ}
+use Rattle.rules.specs.Change.{padOf}
+use Rattle.rules.specs.Rules.{oneStep, twoStep, Call, Word, Reply, asItCame, updated, passed, created, waiting, added, rules}
+use Rattle.rules.specs.Path.{Stop, ReplyAt, Apart, Every, SyncWay, FollowUpWay, FollowUps, existing, never, residences}
+use Rattle.rules.specs.Demand3.{Waiting}
+use Rattle.rules.proofs.Laws.{gone-at-third-tick}
+use Rattle.rules.proofs.PathSums.{path-sum}
+use Rattle.rules.proofs.Samples.{octetsOf, stayed, spare, handedIn, recordOf, after, visit}
+use Rattle.rules.proofs.PathExample.{mine, theirs, aSync, apart, other}
+
+abbrev new : Slots
+new = replicate 16 zeros
+
+-- S set: one-step 1,500 ns, two-step 200 ns, two-step 50 ns for a Sync that starts below 0; its Follow_Up, with S clear, starts with
+-- 11 and comes to the third node first, then to the first, then to the second
+abbrev setSync : ℤ → List ℕ
+setSync pad = octetsOf mine true 0 pad
+
+abbrev itsFollowUp : ℕ → List ℕ
+itsFollowUp pad = octetsOf mine false 8 (pos pad)
+
+abbrev syncFirst : Call
+syncFirst = handedIn oneStep (setSync (negsuc 4)) (stayed 1500)
+
+abbrev syncSecond : Call
+syncSecond = handedIn twoStep (setSync (pos 98303995)) (stayed 200)
+
+abbrev syncThird : Call
+syncThird = handedIn twoStep (setSync (pos 98303995)) (stayed 50)
+
+abbrev followUpThird : Call
+followUpThird = handedIn twoStep (itsFollowUp 11) InvalidStamp
+
+abbrev followUpFirst : Call
+followUpFirst = handedIn oneStep (itsFollowUp 3276811) (stayed 9)
+
+abbrev followUpSecond : Call
+followUpSecond = handedIn twoStep (itsFollowUp 3276811) (stayed 9)
+
+-- a record of another identity waits at the second node, and its Sync is refused there
+abbrev first : Stop
+first = record { mode = oneStep; table = new; events = call syncFirst ∷ tick ∷ call followUpFirst ∷ []; syncPlace = 0; followUpPlace = some 2 }
+
+abbrev second : Stop
+second =
+    record {
+      mode = twoStep;
+      table = recordOf theirs 3 ∷ replicate 15 zeros;
+      events =
+          call (handedIn twoStep (octetsOf theirs true 0 (pos 0)) (stayed 9))
+          ∷ call syncSecond
+          ∷ tick
+          ∷ switchover
+          ∷ call followUpSecond
+          ∷ [];
+      syncPlace = 1;
+      followUpPlace = some 4;
+    }
+
+abbrev third : Stop
+third = record { mode = twoStep; table = new; events = call syncThird ∷ tick ∷ tick ∷ call followUpThird ∷ []; syncPlace = 0; followUpPlace = some 3 }
+
+abbrev path : List Stop
+path = first ∷ second ∷ third ∷ []
+
+sync-way : SyncWay (setSync (negsuc 4)) path (setSync (pos 98303995))
+unfolding same holds sound differ
+sync-way =
+    SyncWay.cross (visit first 0 syncFirst updated (setSync (pos 98303995)) spare refl refl refl)
+    (SyncWay.cross (visit second 1 syncSecond waiting (setSync (pos 98303995)) spare refl refl refl)
+    (SyncWay.cross (visit third 0 syncThird waiting (setSync (pos 98303995)) spare refl refl refl) SyncWay.done))
+
+follow-up-way : FollowUpWay (itsFollowUp 11) (third ∷ first ∷ second ∷ []) (itsFollowUp 16384011)
+unfolding same holds sound differ
+follow-up-way =
+    FollowUpWay.cross 3 refl (visit third 3 followUpThird added (itsFollowUp 3276811) spare refl refl refl)
+    (FollowUpWay.cross 2 refl (visit first 2 followUpFirst passed (itsFollowUp 3276811) spare refl refl refl)
+    (FollowUpWay.cross 4 refl (visit second 4 followUpSecond added (itsFollowUp 16384011) spare refl refl refl) FollowUpWay.done))
+
+another-order : List·Permᴰ (third ∷ first ∷ second ∷ []) path
+another-order =
+    List·Permᴰ·trans (List·Permᴰ·swap {a = third} {b = first} {a′ = first} {b′ = third} refl refl)
+    (List·Permᴰ·cons {a = first} {b = first} refl (List·Permᴰ·swap {a = third} {b = second} {a′ = second} {b′ = third} refl refl))
+
+all-apart : Every (Apart mine) path
+unfolding same holds sound differ
+all-apart = (
+  apart first refl (λ e. inl refl, (tt, (λ e. inr refl, tt))),
+  (
+    apart second refl (other refl, (λ e. inl refl, (tt, (tt, (λ e. inr refl, tt))))),
+    (apart third refl (λ e. inl refl, (tt, (tt, (λ e. inr refl, tt)))), tt),
+  ),
+)
+
+-- 98,303,995 + 16,384,011 = -5 + 11 + 114,688,000
+sum : padOf (setSync (pos 98303995)) +ℤ padOf (itsFollowUp 16384011) ≡ padOf (setSync (negsuc 4)) +ℤ padOf (itsFollowUp 11) +ℤ pos (residences path)
+sum =
+    path-sum mine true (setSync (negsuc 4)) (setSync (pos 98303995)) path (padOf (itsFollowUp 11)) (padOf (itsFollowUp 16384011)) refl all-apart sync-way
+    (existing refl another-order follow-up-way)
+
+in-numbers : pos 98303995 +ℤ pos 16384011 ≡ negsuc 4 +ℤ pos 11 +ℤ pos 114688000
+in-numbers = sum
+
+-- None is created: a Sync with S clear over two one-step nodes, 1,500 ns and 200 ns
+abbrev updatedFirst : Call
+updatedFirst = handedIn oneStep (aSync false 7) (stayed 1500)
+
+abbrev updatedSecond : Call
+updatedSecond = handedIn oneStep (aSync false 98304007) (stayed 200)
+
+abbrev alone : Call → Stop
+alone c = record { mode = oneStep; table = new; events = tick ∷ call c ∷ []; syncPlace = 1; followUpPlace = none }
+
+abbrev oneStepPath : List Stop
+oneStepPath = alone updatedFirst ∷ alone updatedSecond ∷ []
+
+abbrev isUpdated : Answer Word → ℕ
+isUpdated (value updated) = 1
+isUpdated (value passed) = 0
+isUpdated (value created) = 0
+isUpdated (value waiting) = 0
+isUpdated (value added) = 0
+isUpdated (refused n) = 0
+
+one-step-way : SyncWay (aSync false 7) oneStepPath (aSync false 111411207)
+unfolding same holds sound differ
+one-step-way =
+    SyncWay.cross (visit (alone updatedFirst) 1 updatedFirst updated (aSync false 98304007) spare refl refl refl)
+    (SyncWay.cross (visit (alone updatedSecond) 1 updatedSecond updated (aSync false 111411207) spare refl refl refl) SyncWay.done)
+
+-- what was answered "updated" was not answered "created"
+not-created : (c : Call) (m : List ℕ) → ReplyAt (alone c) 1 (after updated m spare) → (r : Reply) → ReplyAt (alone c) 1 r → r .answer ≡ value created → ⊥
+not-created c m is r e q =
+    let same-reply : after updated m spare ≡ r = out (sym is ∙ e) in
+    let z : _≡_ {A = ℕ} 1 0 = ap isUpdated (ap (λ (x : Reply). x .answer) same-reply ∙ q) in
+    omega arith
+  where
+    out : {x y : Reply} → some (replied x) ≡ some (replied y) → x ≡ y
+    out p = cc
+
+none-created : FollowUps mine false oneStepPath (pos 0) (pos 0)
+unfolding same holds sound differ
+none-created = never {ns = oneStepPath} (not-created updatedFirst (aSync false 98304007) refl, (not-created updatedSecond (aSync false 111411207) refl, tt))
+
+one-step-apart : Every (Apart mine) oneStepPath
+unfolding same holds sound differ
+one-step-apart = (apart (alone updatedFirst) refl (tt, (λ e. inl refl, tt)), (apart (alone updatedSecond) refl (tt, (λ e. inl refl, tt)), tt))
+
+-- 111,411,207 + 0 = 7 + 0 + 111,411,200
+one-step-sum : padOf (aSync false 111411207) +ℤ pos 0 ≡ padOf (aSync false 7) +ℤ pos 0 +ℤ pos (residences oneStepPath)
+one-step-sum = path-sum mine false (aSync false 7) (aSync false 111411207) oneStepPath (pos 0) (pos 0) refl one-step-apart one-step-way none-created
+
+one-step-numbers : pos 111411207 +ℤ pos 0 ≡ pos 7 +ℤ pos 0 +ℤ pos (1700 * 65536)
+one-step-numbers = one-step-sum
+
+-- Gone at the third tick: the Follow_Up comes three ticks after the Sync, with a switchover and another identity's Sync between
+abbrev tooLate : List (Event Call)
+tooLate =
+    call syncThird
+    ∷ tick
+    ∷ switchover
+    ∷ tick
+    ∷ call (handedIn twoStep (octetsOf theirs true 0 (pos 0)) (stayed 9))
+    ∷ tick
+    ∷ call followUpThird
+    ∷ []
+
+late-apart : Apart mine (record { mode = twoStep; table = new; events = tooLate; syncPlace = 0; followUpPlace = some 6 })
+unfolding same holds sound differ
+late-apart = apart _ refl (λ e. inl refl, (tt, (tt, (tt, (other refl, (tt, (λ e. inr refl, tt)))))))
+
+waits : Waiting new tooLate mine (50 * 65536) 0 6 followUpThird
+unfolding same holds sound differ
+waits =
+    record {
+      handed = syncThird;
+      here = refl;
+      two-step = refl;
+      is-sync = refl;
+      units = refl;
+      outcome = refl;
+      then = omega arith;
+      there = refl;
+      two-step-too = refl;
+      is-follow-up = refl;
+      between = λ k c a b e i. neither k a b (late-apart .others k c e i);
+    }
+  where
+    neither : (k : ℕ) → 0 < k → k < 6 → (k ≡ 0) ⊎ (some k ≡ some 6) → ⊥
+    neither k a b (inl e) = omega arith
+    neither k a b (inr e) = let f : k ≡ 6 = cc in omega arith
+
+gone : (find mine (final rules new (take 6 tooLate)) ≡ none) × (getElem? (run rules new tooLate) 6 ≡ some (replied (asItCame followUpThird (refused 15))))
+gone = gone-at-third-tick new tooLate mine (50 * 65536) 0 6 followUpThird waits (omega arith)
