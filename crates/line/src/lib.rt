@@ -1,8 +1,12 @@
-// The line that the program prints of a message (document 01, Numbers to check against).
+// The line that the program prints of a message (document 01, Numbers to check against), and the
+// program itself.
 mod place;
+mod program;
 
 use message::Header;
 use message::SubTlv;
+pub use program::print;
+pub use program::show;
 use reader::Reading;
 ghost use mathlib.Core.Path.{_≡_};
 ghost use Prim.Native.Nat.{_+_, _≤_};

@@ -1,6 +1,4 @@
 // Prints the line of each message of standard input. Before each stand two octets, its size.
-use libc::STDOUT_FILENO;
-
 // Prints the line of the next message. Answers false where there is none.
 fn show_next() -> bool {
     let mut head = [0u8; 2];
@@ -9,9 +7,7 @@ fn show_next() -> bool {
     }
     let mut message = io::buffer();
     let n = input::read(&mut message, octets::read16(&head, 0) as usize);
-    let mut out = [0u8; line::ROOM];
-    let end = line::line(&message[..n], &mut out);
-    io::write_all(STDOUT_FILENO, &out[..end])
+    0 < line::print(&message[..n])
 }
 
 fn main() {

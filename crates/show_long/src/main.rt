@@ -1,11 +1,7 @@
-// `show` on an input of more than 2,049 octets, of which it reads no more (document 01, Numbers to
-// check against: "The program reads standard input, up to 2,049 octets").
-use libc::STDOUT_FILENO;
-
+// `show` twice on one input: 2,049 octets, of which the first 2,048 would be a message, and behind
+// them a message of 2,048. The first is refused and the second read whole, exactly if `show` reads
+// 2,049 octets.
 fn main() {
-    let mut message = io::buffer();
-    let n = input::read(&mut message, 2049);
-    let mut out = [0u8; line::ROOM];
-    let end = line::line(&message[..n], &mut out);
-    io::write_all(STDOUT_FILENO, &out[..end]);
+    line::show();
+    line::show();
 }
