@@ -1,7 +1,6 @@
 // Cards with clocks of both formats: a path over PTP and NTP stamps, and the longest NTP residence
 // at a switchover.
 use crate::messages;
-use crate::print;
 use crate::switchovers;
 use egress::Joined;
 use message::layout;
@@ -45,9 +44,10 @@ fn hand(table: Table, message: &mut [u8], output: &mut [u8], stamps: Stamps) -> 
 
 fn join<'a>(sync: &'a [u8], follow_up: &'a [u8]) {
     match egress::join(sync, follow_up) {
-        Joined::Total(total) => print::signed(b", total ", total),
+        Joined::Total(total) => print::number(b", total ", octets::unsigned(total)),
         Joined::Refused(n) => print::refused(n),
     }
+    ;
     print::text(b"\n");
 }
 
@@ -99,10 +99,7 @@ fn switched() {
         &mut spare,
         ntp_stamps(0, 0),
     );
-    print::signed(
-        b" pad ",
-        octets::read_signed(&follow_up, layout::SCRATCH_PAD),
-    );
+    print::number(b" pad ", octets::read64(&follow_up, layout::SCRATCH_PAD));
     print::text(b"\n");
 }
 

@@ -1,7 +1,6 @@
 // The G-ACh header is one byte string: it stands at the start of every message written, and of a
 // created Follow_Up.
 use crate::messages;
-use crate::print;
 use stamp::Stamps;
 use stamp::ptp::Stamp;
 use table::Table;

@@ -1,7 +1,6 @@
 // Residences handed to a node as a number of units: those that no stamps give are answered with 10,
 // in the place where 10 stands.
 use crate::messages;
-use crate::print;
 use residence::Residence;
 use table::Table;
 

@@ -1,28 +1,18 @@
-// Runs the cases of document 01 that are not marked for proof, with more of their kind and of those
-// of document 02, and prints a line for each.
-mod additions;
+// Runs what tells a story over several calls, and what a case of `vectors` cannot hold, and prints a
+// line for each. A case that is an input and a line stands in the data of `vectors`.
 mod clocks;
 mod headers;
-mod joins;
 mod lengths;
 mod limits;
-mod lists;
 mod messages;
-mod print;
-mod residences;
 mod switchovers;
 mod waits;
 
 fn main() {
-    residences::run();
-    lists::run();
     limits::run();
-    additions::run();
     waits::run();
     switchovers::run();
-    joins::run();
     headers::run();
     lengths::run();
-    residences::run_ntp();
     clocks::run();
 }

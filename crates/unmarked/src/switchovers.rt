@@ -1,6 +1,5 @@
 // Switchovers: the table goes as an image to another card, between the calls of a node.
 use crate::messages;
-use crate::print;
 use crate::waits;
 use message::types;
 use records::Record;
@@ -23,11 +22,9 @@ fn load(card: Table, octets: &[u8]) -> Table {
     let answer = loaded.answer;
     match answer {
         Loading::Replaced => print::text(b", loaded"),
-        Loading::Refused(n) => {
-            print::text(b", load ");
-            print::refused(n);
-        }
+        Loading::Refused(n) => print::number(b", load refused ", n as u64),
     }
+    ;
     let slots = loaded.table.slots;
     print_slot(slots[0]);
     print_slot(slots[1]);
@@ -47,8 +44,7 @@ pub(crate) fn switch(table: Table) -> Table {
             load(card, messages::front(&image, n))
         }
         Written::Refused(n) => {
-            print::text(b", image ");
-            print::refused(n);
+            print::number(b", image refused ", n as u64);
             table
         }
     }

@@ -1,7 +1,6 @@
 // Records that wait at a two-step node: want of a slot, doubled, missing and empty ones, and how
 // long they wait.
 use crate::messages;
-use crate::print;
 use message::Fields;
 use message::Header;
 use message::SubTlv;
@@ -47,7 +46,7 @@ fn hand(table: Table, fields: Fields, residence: Residence) -> Table {
     let done = node::handle_two_step(table, &mut message, &mut output, residence);
     let answer = done.answer;
     print::answer(answer);
-    print::signed(b" pad ", octets::read_signed(&message, layout::SCRATCH_PAD));
+    print::number(b" pad ", octets::read64(&message, layout::SCRATCH_PAD));
     done.table
 }
 

@@ -1,6 +1,5 @@
-// How a case is laid out, and how its line is written.
+// How a case is laid out, and what its line has beside words and numbers: signed ones and octets.
 use libc::STDOUT_FILENO;
-use node::Answer;
 ghost use mathlib.Core.Path.{_≡_};
 ghost use lib.ListN.{length};
 
@@ -38,24 +37,14 @@ pub(crate) fn copied<'a>(buffer: &'a mut [u8], s: &[u8]) -> &'a mut [u8] {
     part
 }
 
-pub(crate) fn text(word: &[u8]) {
-    io::write_all(STDOUT_FILENO, word);
-}
-
-// A word and the number behind it.
-pub(crate) fn number(word: &[u8], n: u64) {
-    text(word);
-    io::print_decimal(STDOUT_FILENO, n);
-}
-
 // A word and the signed number behind it.
 pub(crate) fn signed(word: &[u8], z: i64) {
     let bits = octets::unsigned(z);
     if bits < 0x8000_0000_0000_0000 {
-        number(word, bits);
+        print::number(word, bits);
     } else {
-        text(word);
-        number(b"-", 0xFFFF_FFFF_FFFF_FFFF - bits + 1);
+        print::text(word);
+        print::number(b"-", 0xFFFF_FFFF_FFFF_FFFF - bits + 1);
     }
 }
 
@@ -66,29 +55,13 @@ fn octet(b: u8) {
 
 // A word and the octets behind it, in hexadecimal; "-" where there are none.
 pub(crate) fn hex(word: &[u8], s: &[u8]) {
-    text(word);
+    print::text(word);
     if s.len() == 0 {
-        text(b"-");
+        print::text(b"-");
     }
     let mut i = 0;
     while i < s.len() {
         octet(s[i]);
         i += 1;
-    }
-}
-
-pub(crate) fn refused(n: u8) {
-    number(b" refused ", n as u64);
-}
-
-// What a node answers.
-pub(crate) fn answer(answer: Answer) {
-    match answer {
-        Answer::Updated => text(b" updated"),
-        Answer::Passed => text(b" passed"),
-        Answer::Created => text(b" created"),
-        Answer::Waiting => text(b" waiting"),
-        Answer::Added => text(b" added"),
-        Answer::Refused(n) => refused(n),
     }
 }

@@ -9,13 +9,14 @@ use table::Table;
 const ROOM: usize = 336;
 
 fn write_in(out: &mut [u8], body: &[u8]) {
-    format::text(b"image-write");
+    print::text(b"image-write ");
     match tables::read(body).write(out) {
-        Written::Size(n) => format::number(b" size ", n as u64),
-        Written::Refused(n) => format::refused(n),
+        Written::Size(n) => print::number(b"size ", n as u64),
+        Written::Refused(n) => print::refused(n),
     }
+    ;
     format::hex(b" out ", out);
-    format::text(b"\n");
+    print::text(b"\n");
 }
 
 pub(crate) fn run_write(body: &[u8]) {
@@ -27,10 +28,12 @@ pub(crate) fn run_write(body: &[u8]) {
 pub(crate) fn run_load(body: &[u8]) {
     let loaded = Table::new().load(format::counted(body));
     let answer = loaded.answer;
-    format::text(b"image-load");
+    print::text(b"image-load");
     match answer {
-        Loading::Replaced => tables::print(loaded.table),
-        Loading::Refused(n) => format::refused(n),
+        Loading::Replaced => tables::show(loaded.table),
+        Loading::Refused(n) => {
+            print::number(b" refused ", n as u64);
+        }
     }
-    format::text(b"\n");
+    print::text(b"\n");
 }

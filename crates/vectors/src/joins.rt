@@ -3,13 +3,15 @@ use crate::format;
 use egress::Joined;
 
 fn join<'a>(sync: &'a [u8], follow_up: &'a [u8]) {
-    format::text(b"join");
+    print::text(b"join ");
     match egress::join(sync, follow_up) {
-        Joined::Total(total) => format::signed(b" total ", total),
-        Joined::Refused(n) => format::refused(n),
+        Joined::Total(total) => format::signed(b"total ", total),
+        Joined::Refused(n) => {
+            print::refused(n);
+        }
     }
     format::hex(b" packet ", egress::shown(sync, follow_up));
-    format::text(b"\n");
+    print::text(b"\n");
 }
 
 pub(crate) fn run(body: &[u8]) {

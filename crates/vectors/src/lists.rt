@@ -4,22 +4,24 @@ use rtm_set::Count;
 use rtm_set::Lookup;
 
 pub(crate) fn run_count(body: &[u8]) {
-    format::text(b"count");
+    print::text(b"count ");
     match rtm_set::count(format::counted(body)) {
-        Count::Entries(n) => format::number(b" ", n as u64),
-        Count::Refused(n) => format::refused(n),
+        Count::Entries(n) => print::number(b"", n as u64),
+        Count::Refused(n) => print::refused(n),
     }
-    format::text(b"\n");
+    ;
+    print::text(b"\n");
 }
 
 fn entry(list: &[u8], place: usize) {
-    format::text(b"entry");
+    print::text(b"entry ");
     match rtm_set::lookup(list, place) {
-        Lookup::Present => format::text(b" at"),
-        Lookup::Refused(n) => format::refused(n),
+        Lookup::Present => print::text(b"at"),
+        Lookup::Refused(n) => print::refused(n),
     }
+    ;
     format::hex(b" ", rtm_set::entry(list, place));
-    format::text(b"\n");
+    print::text(b"\n");
 }
 
 pub(crate) fn run_entry(body: &[u8]) {

@@ -4,9 +4,9 @@ use crate::stamps;
 use stamp::Stamps;
 
 fn run_in(message: &mut [u8], stamps: Stamps) {
-    format::answer(rtm::one_step(message, stamps));
+    print::answer(rtm::one_step(message, stamps));
     format::hex(b" message ", message);
-    format::text(b"\n");
+    print::text(b"\n");
 }
 
 fn run_with(stamps: Stamps, body: &[u8]) {
@@ -16,11 +16,11 @@ fn run_with(stamps: Stamps, body: &[u8]) {
 }
 
 pub(crate) fn run(body: &[u8]) {
-    format::text(b"one-step");
+    print::text(b"one-step ");
     run_with(stamps::read_ptp(body), body);
 }
 
 pub(crate) fn run_ntp(body: &[u8]) {
-    format::text(b"one-step-ntp");
+    print::text(b"one-step-ntp ");
     run_with(stamps::read_ntp(body), body);
 }

@@ -7,24 +7,24 @@ use reader::Reading;
 
 pub(crate) fn run(body: &[u8]) {
     let message = format::counted(body);
-    format::text(b"read");
-    print(message);
-    format::text(b"\n");
+    print::text(b"read ");
+    show(message);
+    print::text(b"\n");
 }
 
 pub(crate) fn run_length(body: &[u8]) {
     let message = format::counted(body);
-    format::text(b"read-length");
-    print(message);
+    print::text(b"read-length ");
+    show(message);
     print_length(reader::read(message));
-    format::text(b"\n");
+    print::text(b"\n");
 }
 
-fn print(message: &[u8]) {
+fn show(message: &[u8]) {
     match reader::read(message) {
         Reading::Plain(header) => {
             print_header(header);
-            format::text(b" s - kind - port - seq -");
+            print::text(b" s - kind - port - seq -");
             format::hex(b" carried ", reader::carried(message));
         }
         Reading::Ptp(header, sub_tlv) => {
@@ -32,28 +32,31 @@ fn print(message: &[u8]) {
             print_sub_tlv(sub_tlv);
             format::hex(b" carried ", reader::carried(message));
         }
-        Reading::Refused(n) => format::refused(n),
+        Reading::Refused(n) => {
+            print::refused(n);
+        }
     }
 }
 
 fn print_header(header: Header) {
-    format::number(b" type ", header.message_type as u64);
+    print::number(b"type ", header.message_type as u64);
     format::signed(b" pad ", header.pad);
 }
 
 fn print_sub_tlv(sub_tlv: SubTlv) {
-    format::number(b" s ", sub_tlv.two_step as u64);
-    format::number(b" kind ", sub_tlv.ptp_type as u64);
-    format::text(b" port ");
+    print::number(b" s ", sub_tlv.two_step as u64);
+    print::number(b" kind ", sub_tlv.ptp_type as u64);
+    print::text(b" port ");
     io::print_hex(STDOUT_FILENO, sub_tlv.clock, 16);
     io::print_hex(STDOUT_FILENO, sub_tlv.port as u64, 4);
-    format::number(b" seq ", sub_tlv.sequence as u64);
+    print::number(b" seq ", sub_tlv.sequence as u64);
 }
 
 fn print_length(reading: Reading) {
     match reading {
-        Reading::Plain(_) => format::text(b" length -"),
-        Reading::Ptp(_, sub_tlv) => format::number(b" length ", sub_tlv.length as u64),
-        Reading::Refused(_) => {}
+        Reading::Plain(_) => print::text(b" length -"),
+        Reading::Ptp(_, sub_tlv) => print::number(b" length ", sub_tlv.length as u64),
+        Reading::Refused(_) => 0,
     }
+    ;
 }

@@ -37,8 +37,8 @@ fn print_slot(slot: Record) {
     io::print_hex(STDOUT_FILENO, slot.wait as u64, 2);
 }
 
-pub(crate) fn print(table: Table) {
-    format::text(b" table ");
+pub(crate) fn show(table: Table) {
+    print::text(b" table ");
     let slots = table.slots;
     let mut i: usize = 0;
     while i < 16 {

@@ -4,7 +4,7 @@ use crate::tables;
 
 pub(crate) fn run(body: &[u8]) {
     let ticked = tables::read(body).tick();
-    format::number(b"tick ", ticked.emptied as u64);
-    tables::print(ticked.table);
-    format::text(b"\n");
+    print::number(b"tick ", ticked.emptied as u64);
+    tables::show(ticked.table);
+    print::text(b"\n");
 }

@@ -14,11 +14,11 @@ const MESSAGE: usize = 354;
 fn run_in(message: &mut [u8], out: &mut [u8], stamps: Stamps, body: &[u8]) {
     let done = rtm::two_step(tables::read(body), message, out, stamps);
     let answer = done.answer;
-    format::answer(answer);
+    print::answer(answer);
     format::hex(b" message ", message);
     format::hex(b" out ", out);
-    tables::print(done.table);
-    format::text(b"\n");
+    tables::show(done.table);
+    print::text(b"\n");
 }
 
 fn run_with(stamps: Stamps, body: &[u8]) {
@@ -35,11 +35,11 @@ fn run_with(stamps: Stamps, body: &[u8]) {
 }
 
 pub(crate) fn run(body: &[u8]) {
-    format::text(b"two-step");
+    print::text(b"two-step ");
     run_with(stamps::read_ptp(format::after(body, STAMPS)), body);
 }
 
 pub(crate) fn run_ntp(body: &[u8]) {
-    format::text(b"two-step-ntp");
+    print::text(b"two-step-ntp ");
     run_with(stamps::read_ntp(format::after(body, STAMPS)), body);
 }

@@ -27,11 +27,12 @@ fn fields(body: &[u8], length: u16) -> Fields {
 
 fn write_in(out: &mut [u8], fields: Fields, carried: &[u8]) {
     match writer::write(out, fields, carried) {
-        Written::Size(n) => format::number(b" size ", n as u64),
-        Written::Refused(n) => format::refused(n),
+        Written::Size(n) => print::number(b"size ", n as u64),
+        Written::Refused(n) => print::refused(n),
     }
+    ;
     format::hex(b" out ", out);
-    format::text(b"\n");
+    print::text(b"\n");
 }
 
 // Writes into an output of the size that the rest of the body gives: room (2), and the carried
@@ -48,7 +49,7 @@ fn write(fields: Fields, rest: &[u8]) {
 
 // With the length that RFC 8169 gives.
 pub(crate) fn run(body: &[u8]) {
-    format::text(b"write");
+    print::text(b"write ");
     write(
         fields(body, layout::PTP_SUB_TLV_LENGTH),
         format::after(body, 24),
@@ -57,7 +58,7 @@ pub(crate) fn run(body: &[u8]) {
 
 // With a length (2) of the body's, behind the sequence.
 pub(crate) fn run_length(body: &[u8]) {
-    format::text(b"write-length");
+    print::text(b"write-length ");
     write(
         fields(body, octets::read16(body, 24)),
         format::after(body, 26),

@@ -1,9 +1,9 @@
--- `print` is safe and ends: the measure is the number of slots that are left.
+-- `show` is safe and ends: the measure is the number of slots that are left.
 -- Assumes what libc says of its `write`, through `io`.
 use Prim.Native.Nat.{_-_, _≤_}
 use borrow.Author.Needs.{needs}
-use Rattle.vectors.proofs.tables.print.Statement.{statement}
-use Rattle.vectors.proofs.tables.print.Tie as tie
+use Rattle.vectors.proofs.tables.show.Statement.{statement}
+use Rattle.vectors.proofs.tables.show.Tie as tie
 
 abbrev Inv-loop : tie.InvT-loop
 Inv-loop slots i₀ i = i ≤ 16
@@ -41,8 +41,8 @@ loop-again c = search needs
 returns : tie.Need-returns Inv-loop μ-loop
 returns c = search needs
 
-pub print-spec : {M : Type 1} → statement M
-print-spec =
+pub show-spec : {M : Type 1} → statement M
+show-spec =
     tie.close
     (tie.spec
     Inv-loop
