@@ -1,12 +1,12 @@
 -- What comes back: the image of records that can be loaded loads as these records, since its layout is read back and each record's
 -- fields make the record again.
 -- Assumes nothing.
-use Prim.Native.Nat.{ℕ, zero, suc, _-_, _≤_}
+use Prim.Native.Nat.{ℕ, zero, suc, _-_, _<_, _≤_}
 use mathlib.Core.Path.{_≡_, refl, sym, ap, _∙_}
 use mathlib.Core.Bool.{Bool, true, false, not, cond, _&&_, and-eq-true-iff}
 use mathlib.Core.List.{List, [], _∷_, _++_, map}
 use native.Mathlib.Omega.{arith}
-use borrow.Author.Tests.{leb-true, ne-eqb, not-true, not-false}
+use borrow.Author.Tests.{leb-true, ltb-true, ne-eqb, not-true, not-false}
 use lib.Dec.{leb, ltb}
 use lib.ListN.{length, take, drop, replicate, length-map}
 use lib.Seq.{take-append-seam}
@@ -59,25 +59,42 @@ loadable-parts rs h =
     let l = and-eq-true-iff (every sound rs) (distinct rs) .0 (k .1) in
     (leb-true (length rs) 16 (k .0), l .0, l .1)
 
-sound-parts : (r : Record) → sound r ≡ true → (not (empty r) ≡ true) × (fit (form .widths) (fieldsOf r) ≡ true)
+-- a record of an image, by its numbers
+record Held (r : Record) : Type 0 where
+  waits : 1 ≤ r .wait
+  not-long : r .wait ≤ 3
+  short : r .residence < limit
+  fits : fit (form .widths) (fieldsOf r) ≡ true
+
+sound-held : (r : Record) → sound r ≡ true → Held r
 unfolding sound
-sound-parts r h =
+sound-held r h =
     let f = fit (form .widths) (fieldsOf r) in
     let k = and-eq-true-iff (rightWait r) (rightResidence r && f) .0 h in
-    let waits : 1 ≤ r .wait = leb-true 1 (r .wait) (and-eq-true-iff (leb 1 (r .wait)) (leb (r .wait) 3) .0 (k .0) .0) in
-    (rw (ne-eqb (r .wait) 0 (λ e. omega arith)), and-eq-true-iff (rightResidence r) f .0 (k .1) .1)
+    let w = and-eq-true-iff (leb 1 (r .wait)) (leb (r .wait) 3) .0 (k .0) in
+    let l = and-eq-true-iff (rightResidence r) f .0 (k .1) in
+    record {
+      waits = leb-true 1 (r .wait) (w .0);
+      not-long = leb-true (r .wait) 3 (w .1);
+      short = below (l .0) (omega arith);
+      fits = l .1;
+    }
+  where
+    below : {x y : ℕ} → ltb x y ≡ true → y ≤ limit → x < limit
+    below {x} {y} e h = omega (arith, ltb-true x y e)
 
 sound-full : (rs : Slots) → every sound rs ≡ true → full rs ≡ true
 sound-full [] h = refl
 sound-full (r ∷ rs) h =
     let k = and-eq-true-iff (sound r) (every sound rs) .0 h in
-    and-eq-true-iff (not (empty r)) (full rs) .1 (sound-parts r (k .0) .0, sound-full rs (k .1))
+    let w = sound-held r (k .0) .waits in
+    and-eq-true-iff (not (empty r)) (full rs) .1 (rw (ne-eqb (r .wait) 0 (λ e. omega arith)), sound-full rs (k .1))
 
 sound-fit : (rs : Slots) → every sound rs ≡ true → allFit (form .widths) (map fieldsOf rs) ≡ true
 sound-fit [] h = refl
 sound-fit (r ∷ rs) h =
     let k = and-eq-true-iff (sound r) (every sound rs) .0 h in
-    and-eq-true-iff (fit (form .widths) (fieldsOf r)) (allFit (form .widths) (map fieldsOf rs)) .1 (sound-parts r (k .0) .1, sound-fit rs (k .1))
+    and-eq-true-iff (fit (form .widths) (fieldsOf r)) (allFit (form .widths) (map fieldsOf rs)) .1 (sound-held r (k .0) .fits, sound-fit rs (k .1))
 
 -- ---- the image written, and loaded
 

@@ -123,20 +123,6 @@ differ-view q (s ∷ t) = go (empty s) refl (holds q s) refl (differ-view q t)
 abbrev pub Single : Slots → Type 0
 Single t = (q : Identity) → length (view q t) ≤ 1
 
-single-distinct : (t : Slots) → Single t → distinct (recordsOf t) ≡ true
-single-distinct [] h = refl
-single-distinct (s ∷ t) h = go (empty s) refl (single-distinct t)
-  where
-    go : (b : Bool) → empty s ≡ b → (Single t → distinct (recordsOf t) ≡ true) → distinct (cond b (recordsOf t) (s ∷ recordsOf t)) ≡ true
-    go true e k = k (λ q. rw (holds-empty q s e) at (h q))
-    go false e k =
-        let own : suc (length (view (identityOf s) t)) ≤ 1 = rw (holds-self s e) at (h (identityOf s)) in
-        rw (differ-view (identityOf s) t, eq-eqb (length (view (identityOf s) t)) 0 (omega arith)) (k (λ q. fewer q (holds q s) (h q)))
-      where
-        fewer : (q : Identity) (b : Bool) → length (cond b (s ∷ view q t) (view q t)) ≤ 1 → length (view q t) ≤ 1
-        fewer q true l = omega arith
-        fewer q false l = l
-
 distinct-single : (t : Slots) → distinct (recordsOf t) ≡ true → Single t
 distinct-single [] h q = omega arith
 distinct-single (s ∷ t) h q = go (empty s) refl h (λ k. distinct-single t k q)
@@ -158,6 +144,20 @@ distinct-single (s ∷ t) h q = go (empty s) refl h (λ k. distinct-single t k q
             let alone : length (view (identityOf s) t) ≡ 0 = eqb-true (length (view (identityOf s) t)) 0 (sym (differ-view (identityOf s) t) ∙ parts .0) in
             rw (f, holds-self s e) (omega arith)
         by (no f) = rw (holds-other q (identityOf s) s f (holds-self s e)) (k (parts .1))
+
+single-distinct : (t : Slots) → Single t → distinct (recordsOf t) ≡ true
+single-distinct [] h = refl
+single-distinct (s ∷ t) h = go (empty s) refl (single-distinct t)
+  where
+    go : (b : Bool) → empty s ≡ b → (Single t → distinct (recordsOf t) ≡ true) → distinct (cond b (recordsOf t) (s ∷ recordsOf t)) ≡ true
+    go true e k = k (λ q. rw (holds-empty q s e) at (h q))
+    go false e k =
+        let own : suc (length (view (identityOf s) t)) ≤ 1 = rw (holds-self s e) at (h (identityOf s)) in
+        rw (differ-view (identityOf s) t, eq-eqb (length (view (identityOf s) t)) 0 (omega arith)) (k (λ q. fewer q (holds q s) (h q)))
+      where
+        fewer : (q : Identity) (b : Bool) → length (cond b (s ∷ view q t) (view q t)) ≤ 1 → length (view q t) ≤ 1
+        fewer q true l = omega arith
+        fewer q false l = l
 
 -- ---- a table in service
 

@@ -29,7 +29,8 @@ pub fn read(buf: &mut [u8], size: usize) -> usize
     ensures { λ r. ⌜ Counts r (now (buf .exit)) ⌝ }
     ensures { λ r. ⌜ Reads size (now (buf .entry)) (now (buf .exit)) r ⌝ }
 {
-    if buf.len() < size {
+    let room = buf.len();
+    if room < size {
         return 0;
     }
     if MOST < size {
