@@ -1,11 +1,11 @@
 -- The branches of demand 3 that document 01's path does not take can be met: a path with S set at the start, whose Follow_Up takes
 -- its nodes in another order than the Sync; a path on which no node creates a Follow_Up; and a record that is gone at its third tick.
 -- Assumes nothing.
-use Prim.Native.Nat.{ℕ, _*_, _<_}
+use Prim.Native.Nat.{ℕ, _*_}
 use mathlib.Core.Path.{_≡_, refl, sym, ap, _∙_}
 use mathlib.Core.Bool.{true, false}
 use mathlib.Core.List.{List, [], _∷_, List·Permᴰ, List·Permᴰ·nil, List·Permᴰ·cons, List·Permᴰ·swap, List·Permᴰ·trans}
-use mathlib.Core.Logic.{_⊎_, inl, inr}
+use mathlib.Core.Logic.{inl, inr}
 use mathlib.Core.Option.{none, some}
 use native.Mathlib.Omega.{arith}
 use lib.IntN.{ℤ, pos, negsuc, _+ℤ_}
@@ -21,7 +21,7 @@ use Rattle.rules.specs.Path.{Stop, ReplyAt, Apart, Every, SyncWay, Follo
 use Rattle.rules.specs.Demand3.{Waiting}
 use Rattle.rules.proofs.Laws.{gone-at-third-tick}
 use Rattle.rules.proofs.PathSums.{path-sum}
-use Rattle.rules.proofs.Samples.{octetsOf, stayed, spare, handedIn, recordOf, after, visit}
+use Rattle.rules.proofs.Samples.{octetsOf, stayed, spare, handedIn, recordOf, after, visit, waits}
 use Rattle.rules.proofs.PathExample.{mine, theirs, aSync, apart, other}
 
 abbrev new : Slots
@@ -181,30 +181,15 @@ tooLate =
     ∷ call followUpThird
     ∷ []
 
-late-apart : Apart mine (record { mode = twoStep; table = new; events = tooLate; syncPlace = 0; followUpPlace = some 6 })
-unfolding same holds sound differ
-late-apart = apart _ refl (λ e. inl refl, (tt, (tt, (tt, (other refl, (tt, (λ e. inr refl, tt)))))))
+abbrev late : Stop
+late = record { mode = twoStep; table = new; events = tooLate; syncPlace = 0; followUpPlace = some 6 }
 
-waits : Waiting new tooLate mine (50 * 65536) 0 6 followUpThird
+waiting-late : Waiting new tooLate mine (50 * 65536) 0 6 followUpThird
 unfolding same holds sound differ
-waits =
-    record {
-      handed = syncThird;
-      here = refl;
-      two-step = refl;
-      is-sync = refl;
-      units = refl;
-      outcome = refl;
-      then = omega arith;
-      there = refl;
-      two-step-too = refl;
-      is-follow-up = refl;
-      between = λ k c a b e i. neither k a b (late-apart .others k c e i);
-    }
-  where
-    neither : (k : ℕ) → 0 < k → k < 6 → (k ≡ 0) ⊎ (some k ≡ some 6) → ⊥
-    neither k a b (inl e) = omega arith
-    neither k a b (inr e) = let f : k ≡ 6 = cc in omega arith
+waiting-late =
+    waits mine late (50 * 65536) 0 6 syncThird followUpThird
+    (apart late refl (λ e. inl refl, (tt, (tt, (tt, (other refl, (tt, (λ e. inr refl, tt))))))))
+    refl refl (omega arith) (refl, refl, refl, refl) refl (refl, refl, refl)
 
 gone : (find mine (final rules new (take 6 tooLate)) ≡ none) × (getElem? (run rules new tooLate) 6 ≡ some (replied (asItCame followUpThird (refused 15))))
-gone = gone-at-third-tick new tooLate mine (50 * 65536) 0 6 followUpThird waits (omega arith)
+gone = gone-at-third-tick new tooLate mine (50 * 65536) 0 6 followUpThird waiting-late (omega arith)

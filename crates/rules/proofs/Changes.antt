@@ -17,9 +17,9 @@ use mir.ValLaws.{toZ-ofZ, toZ-pos, ofZ-fits}
 use Rattle.octets.specs.Octets.{number, octets, signedOctets, put}
 use Rattle.octets.proofs.Numbers.{number-octets, number-drop}
 use Rattle.octets.proofs.Puts.{length-put, getD-before, getD-behind, getD-there, drop-behind, number-before, number-behind, number-there, each, part-each}
-use Rattle.message.specs.Read.{isSubTlvLength, subTlv, messageValue}
+use Rattle.message.specs.Read.{isSubTlvLength, isSubTlv, subTlv, messageValue}
 use Rattle.message.specs.Write.{gAchHeader}
-use Rattle.message.proofs.Sound.{SoundHeader, stated-length}
+use Rattle.message.proofs.Sound.{SoundHeader, SoundPtp, stated-length}
 use Rattle.scratch_pad.specs.Sum.{inRange}
 use Rattle.records.specs.declared.Identity.{Identity}
 use Rattle.rules.specs.Change.{padOf, withPad, withTwoStep, followUpFields, followUpOf}
@@ -46,6 +46,23 @@ kept-header s vs n low type size k =
       known = rw type (k .known);
     }
 
+-- and one that also leaves the sub-TLV's type and length keeps a sound message of types 2 to 4
+kept :
+    (s vs : List ℕ) (n : ℕ) → 4 ≤ n
+    → number 2 (put s n vs) 12 ≡ number 2 s 12
+    → number 2 (put s n vs) 14 ≡ number 2 s 14
+    → isSubTlv (messageValue (put s n vs)) ≡ true
+    → SoundPtp s
+    → SoundPtp (put s n vs)
+kept s vs n low type size is h =
+    record {
+      sound = kept-header s vs n low type size (h .sound);
+      not-one = λ e. h .not-one (sym type ∙ e);
+      not-five = λ e. h .not-five (sym type ∙ e);
+      long = rw (length-put s vs n) (h .long);
+      is = is;
+    }
+
 module _ (s : List ℕ) (k : ℕ) (b : Bool) (q : Identity) (m : Bears s k b q) where
   long : 36 ≤ length s
   long = m .sound .long
@@ -65,14 +82,7 @@ module _ (s : List ℕ) (k : ℕ) (b : Bool) (q : Identity) (m : Bears s k b q) 
         let v = drop-behind s vs 4 16 (omega arith) in
         let h = m .sound in
         record {
-          sound =
-              record {
-                sound = kept-header s vs 4 (omega arith) type size (h .sound);
-                not-one = λ e. h .not-one (sym type ∙ e);
-                not-five = λ e. h .not-five (sym type ∙ e);
-                long = rw (length-put s vs 4) (h .long);
-                is = rw v (h .is);
-              };
+          sound = kept s vs 4 (omega arith) type size (rw v (h .is)) h;
           kind = rw v (m .kind);
           two-step = rw v (m .two-step);
           who = rw v (m .who);
@@ -104,14 +114,7 @@ module _ (s : List ℕ) (k : ℕ) (b : Bool) (q : Identity) (m : Bears s k b q) 
         let same : identityIn (subTlv (drop 16 (put s 20 vs))) ≡ identityIn (subTlv (drop 16 s)) =
         λ i. record { clock = clock i; port = port i; sequence = sequence i } in
         record {
-          sound =
-              record {
-                sound = kept-header s vs 20 (omega arith) type size (h .sound);
-                not-one = λ e. h .not-one (sym type ∙ e);
-                not-five = λ e. h .not-five (sym type ∙ e);
-                long = rw (length-put s vs 20) (h .long);
-                is = rw (low 2 0 (omega arith), low 2 2 (omega arith)) (h .is);
-              };
+          sound = kept s vs 20 (omega arith) type size (rw (low 2 0 (omega arith), low 2 2 (omega arith)) (h .is)) h;
           kind = rw last (m .kind);
           two-step = rw octet set;
           who = same ∙ m .who;

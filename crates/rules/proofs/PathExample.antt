@@ -22,7 +22,7 @@ use Rattle.rules.specs.Path.{Stop, Apart, Every, SyncWay, FollowUpWay, F
 use Rattle.rules.specs.Demand3.{Waiting}
 use Rattle.rules.proofs.Laws.{added-in-time}
 use Rattle.rules.proofs.PathSums.{path-sum}
-use Rattle.rules.proofs.Samples.{numbered, octetsOf, stayed, spare, handedIn, recordOf, answers, after, visit, Each, each}
+use Rattle.rules.proofs.Samples.{numbered, octetsOf, stayed, spare, handedIn, recordOf, answers, after, visit, waits, Each, each}
 
 -- the Sync's identity, and two others
 abbrev pub mine : Identity
@@ -234,26 +234,10 @@ in-numbers : pos 98304000 +ℤ pos 16384000 ≡ pos 0 +ℤ pos 0 +ℤ pos 114688
 in-numbers = sum
 
 -- at the third node the Follow_Up comes two ticks and a switchover after the Sync, in time
-waits : Waiting spread (third .events) mine (50 * 65536) 3 8 followUpThird
+waiting-third : Waiting spread (third .events) mine (50 * 65536) 3 8 followUpThird
 unfolding same holds sound differ
-waits =
-    record {
-      handed = syncThird;
-      here = refl;
-      two-step = refl;
-      is-sync = refl;
-      units = refl;
-      outcome = refl;
-      then = omega arith;
-      there = refl;
-      two-step-too = refl;
-      is-follow-up = refl;
-      between = λ k c a b e i. neither k a b (third-apart .others k c e i);
-    }
-  where
-    neither : (k : ℕ) → 3 < k → k < 8 → (k ≡ 3) ⊎ (some k ≡ some 8) → ⊥
-    neither k a b (inl e) = omega arith
-    neither k a b (inr e) = let f : k ≡ 8 = cc in omega arith
+waiting-third =
+    waits mine third (50 * 65536) 3 8 syncThird followUpThird third-apart refl refl (omega arith) (refl, refl, refl, refl) refl (refl, refl, refl)
 
 in-time : getElem? (run rules spread (third .events)) 8 ≡ some (replied (addToPad followUpThird added (50 * 65536)))
-in-time = added-in-time spread (third .events) mine (50 * 65536) 3 8 followUpThird waits (omega arith)
+in-time = added-in-time spread (third .events) mine (50 * 65536) 3 8 followUpThird waiting-third (omega arith)

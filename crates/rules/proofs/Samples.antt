@@ -1,9 +1,10 @@
 -- For the worked examples of demand 3: messages of type 3, calls on them, the answers of a run, and every place of a list in turn.
 -- Assumes nothing.
-use Prim.Native.Nat.{ℕ, zero, suc, _*_}
+use Prim.Native.Nat.{ℕ, zero, suc, _*_, _<_}
 use mathlib.Core.Path.{_≡_, refl, sym, subst}
-use mathlib.Core.Bool.{Bool}
+use mathlib.Core.Bool.{Bool, true}
 use mathlib.Core.List.{List, [], _∷_, map}
+use mathlib.Core.Logic.{_⊎_, inl, inr}
 use mathlib.Core.Option.{some}
 use native.Mathlib.Omega.{arith}
 use lib.IntN.{ℤ}
@@ -12,12 +13,14 @@ use Rattle.refusal.specs.Answer.{Answer, value}
 use Rattle.refusal.proofs.Answers.{not-both}
 use Rattle.residence.specs.declared.Residence.{Residence}
 use Rattle.residence.specs.declared.Residence.the-variants.{Units}
+use Rattle.residence.specs.Residence.{acceptedOf}
 use Rattle.message.specs.Write.{ptpOctets}
 use Rattle.records.specs.declared.Identity.{Identity}
 use Rattle.records.specs.declared.Record.{Record}
 use Rattle.records.specs.Node.{call, Result, told, replied, taken-over}
-use Rattle.rules.specs.Rules.{Mode, Call, Word, Reply}
-use Rattle.rules.specs.Path.{Stop, ReplyAt, Visit}
+use Rattle.rules.specs.Rules.{sync, followUp, kindOf, Mode, twoStep, Call, Word, waiting, asItCame, Reply}
+use Rattle.rules.specs.Path.{Stop, ReplyAt, Visit, Apart}
+use Rattle.rules.specs.Demand3.{Waiting}
 
 -- the identity of document 01's cases, and others of its port: port 00 01 02 03 04 05 06 07 00 01
 abbrev pub numbered : ℕ → Identity
@@ -69,6 +72,36 @@ pub visit :
     → Visit n k (c .message) (after w m out)
 visit n k c w m out here mode outcome =
     record { handed = c; here = here; mode = mode; octets = refl; outcome = outcome; unrefused = λ a e. not-both (sym e) }
+
+-- a Sync that waits and its Follow_Up, at their places of a node with no other call of the identity, from what computing shows
+pub waits :
+    (q : Identity) (n : Stop) (u i j : ℕ) (c d : Call)
+    → Apart q n
+    → n .syncPlace ≡ i
+    → n .followUpPlace ≡ some j
+    → i < j
+    → (getElem? (n .events) i ≡ some (call c)) × (c .mode ≡ twoStep) × (kindOf (c .message) ≡ sync q true) × (acceptedOf (c .residence) ≡ value u)
+    → ReplyAt n i (asItCame c (value waiting))
+    → (getElem? (n .events) j ≡ some (call d)) × (d .mode ≡ twoStep) × (kindOf (d .message) ≡ followUp q)
+    → Waiting (n .table) (n .events) q u i j d
+waits q n u i j c d alone at-i at-j less first outcome second =
+    record {
+      handed = c;
+      here = first .0;
+      two-step = first .1;
+      is-sync = first .2;
+      units = first .3;
+      outcome = outcome;
+      then = less;
+      there = second .0;
+      two-step-too = second .1;
+      is-follow-up = second .2;
+      between = λ k x a b e w. neither k a b (alone .others k x e w);
+    }
+  where
+    neither : (k : ℕ) → i < k → k < j → (k ≡ n .syncPlace) ⊎ (some k ≡ n .followUpPlace) → ⊥
+    neither k a b (inl e) = omega (arith, at-i)
+    neither k a b (inr e) = let f : k ≡ j = cc in omega arith
 
 -- what holds of each element of a list and its place
 abbrev pub Each : {A : Type 0} → (ℕ → A → Type 0) → List A → Type 0
