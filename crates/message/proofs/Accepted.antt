@@ -2,7 +2,7 @@
 -- Assumes nothing.
 use Prim.Native.Nat.{ℕ, _+_, _<_, _≤_}
 use mathlib.Core.Path.{_≡_, refl, sym, ap, _∙_}
-use mathlib.Core.Bool.{Bool, true, false, not, cond, _&&_, _||_}
+use mathlib.Core.Bool.{Bool, true, false, not, cond, _&&_, _||_, and-eq-true-iff}
 use native.Mathlib.Omega.{arith}
 use borrow.Author.Tests.{le-leb, leb-true, leb-false, ltb-false, eqb-true, not-false}
 use lib.Dec.{ltb, leb, eqb}
@@ -11,17 +11,16 @@ use Rattle.refusal.proofs.Answers.{passes}
 use Rattle.message.specs.declared.fields.SubTlv.{SubTlv}
 use Rattle.message.specs.Read.{isType, isSubTlvLength}
 use Rattle.message.specs.Write.{isPtp, carriedAt, fitOf, sizeOf}
-use Rattle.message.proofs.Sound.{both}
 
 -- the known Types, and those with a sub-TLV
 pub known-types : (t : ℕ) → isType t ≡ true → (1 ≤ t) × (t ≤ 5)
 known-types t p =
-    let b = both (leb 1 t) (leb t 5) p in
+    let b = and-eq-true-iff (leb 1 t) (leb t 5) .0 p in
     (leb-true 1 t (b .0), leb-true t 5 (b .1))
 
 pub ptp-types : (t : ℕ) → isPtp t ≡ true → (2 ≤ t) × (t ≤ 4)
 ptp-types t p =
-    let b = both (leb 2 t) (leb t 4) p in
+    let b = and-eq-true-iff (leb 2 t) (leb t 4) .0 p in
     (leb-true 2 t (b .0), leb-true t 4 (b .1))
 
 pub plain-types : (t : ℕ) → isPtp t ≡ false → 2 ≤ t → 4 < t

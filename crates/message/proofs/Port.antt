@@ -1,16 +1,16 @@
 -- A port identity's octets are those of its two numbers, and its numbers are read from them alone.
 -- Assumes nothing.
-use Prim.Native.Nat.{ℕ, _+_, _<_, _≤_}
+use Prim.Native.Nat.{ℕ, _+_, _≤_}
 use mathlib.Core.Path.{_≡_, sym, ap, _∙_}
 use mathlib.Core.List.{List, _++_}
 use native.Mathlib.Omega.{arith}
-use lib.ListN.{length, getD, take, drop}
+use lib.ListN.{length, take, drop}
 use lib.Seq.{take-add, drop-drop}
-use Rattle.octets.specs.Octets.{number, octets}
+use Rattle.octets.specs.Octets.{Octets, number, octets}
 use Rattle.octets.proofs.Numbers.{number-drop, number-take, octets-number}
 use Rattle.message.specs.Port.{portOctets, SamePort}
 
-port-octets : (v : List ℕ) → 20 ≤ length v → ((i : ℕ) → getD v i 0 < 256) → portOctets v ≡ octets 8 (number 8 v 8) ++ octets 2 (number 2 v 16)
+port-octets : (v : List ℕ) → 20 ≤ length v → Octets v → portOctets v ≡ octets 8 (number 8 v 8) ++ octets 2 (number 2 v 16)
 port-octets v long low =
     let clock = sym (octets-number v low 8 8 (omega arith)) in
     let port = ap (take 2) (drop-drop 8 8 v) ∙ sym (octets-number v low 2 16 (omega arith)) in

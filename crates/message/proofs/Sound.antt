@@ -2,7 +2,7 @@
 -- Assumes nothing.
 use Prim.Native.Nat.{ℕ, _-_, _≤_}
 use mathlib.Core.Path.{_≡_, refl, sym, ap, _∙_}
-use mathlib.Core.Bool.{Bool, true, false, not, cond, _&&_, false≢true}
+use mathlib.Core.Bool.{Bool, true, false, not, cond, and-eq-true-iff}
 use mathlib.Core.List.{List}
 use native.Mathlib.Omega.{arith}
 use borrow.Author.Tests.{le-ltb, eq-eqb, ne-eqb, ltb-false, eqb-true, eqb-false, not-false}
@@ -10,7 +10,7 @@ use lib.Dec.{ltb, eqb}
 use lib.ListN.{length, length-drop}
 use Rattle.octets.specs.Octets.{number}
 use Rattle.refusal.specs.Answer.{Answer, value, refused, refuse, andThen}
-use Rattle.refusal.proofs.Answers.{not-both, passes}
+use Rattle.refusal.proofs.Answers.{not-both, same-value, passes}
 use Rattle.message.specs.declared.fields.Header.{Header}
 use Rattle.message.specs.declared.fields.SubTlv.{SubTlv}
 use Rattle.message.specs.Read.{plain, ptp, isRtm, version, lengthField, messageValue, isType, isSubTlvLength, isSubTlv, subTlv, header, headerOf, subTlvOf, messageOf, readOf}
@@ -50,20 +50,12 @@ header-sound s h e =
         size = eqb-true (lengthField s) (length s - 16) (not-false (eqb (lengthField s) (length s - 16)) (p5 .0));
         known = not-false (isType (header s .«message_type»)) (p6 .0);
       },
-      out (p6 .1),
+      same-value (p6 .1),
     )
-  where
-    out : {g h : Header} → value g ≡ value h → g ≡ h
-    out q = cc
-
--- two tests that both hold
-pub both : (a b : Bool) → (a && b) ≡ true → (a ≡ true) × (b ≡ true)
-both true b e = (refl, e)
-both false b e = absurd (false≢true e)
 
 -- the length that an accepted sub-TLV states
 pub stated-length : (v : List ℕ) → isSubTlv v ≡ true → isSubTlvLength (number 2 v 2) ≡ true
-stated-length v e = both (eqb (number 2 v 0) 1) (isSubTlvLength (number 2 v 2)) e .1
+stated-length v e = and-eq-true-iff (eqb (number 2 v 0) 1) (isSubTlvLength (number 2 v 2)) .0 e .1
 
 -- a Value whose sub-TLV has nothing to refuse
 pub sub-tlv-taken : (v : List ℕ) → 20 ≤ length v → isSubTlv v ≡ true → subTlvOf v ≡ value (subTlv v)
@@ -111,7 +103,7 @@ ptp-sound s h t e = by-header (headerOf s) refl e
             is = not-false (isSubTlv v) (p8 .0);
           },
           k .1 ∙ first r,
-          inner (p8 .1) ∙ second r,
+          same-value (p8 .1) ∙ second r,
         )
       where
         first : value (ptp g x) ≡ value (ptp h t) → g ≡ h
@@ -119,9 +111,6 @@ ptp-sound s h t e = by-header (headerOf s) refl e
 
         second : value (ptp g x) ≡ value (ptp h t) → x ≡ t
         second z = cc
-
-        inner : {y : SubTlv} → value y ≡ value x → y ≡ x
-        inner z = cc
 
     by-five : (g : Header) → headerOf s ≡ value g → (g .«message_type» ≡ 1 → ⊥) → (b : Bool) → eqb (g .«message_type») 5 ≡ b → cond b (value (plain g)) (andThen (subTlvOf (messageValue s)) (λ x. value (ptp g x))) ≡ value (ptp h t) → Claim
     by-five g p one true q r = absurd (differ r)

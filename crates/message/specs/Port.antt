@@ -1,8 +1,9 @@
 -- A port identity as ten octets and as two numbers (document 01: "24 to 33: Port ID").
-use Prim.Native.Nat.{ℕ, _<_, _≤_}
+use Prim.Native.Nat.{ℕ, _≤_}
 use mathlib.Core.Path.{_≡_}
 use mathlib.Core.List.{List}
-use lib.ListN.{length, getD, take, drop}
+use lib.ListN.{length, take, drop}
+use Rattle.octets.specs.Octets.{Octets}
 use Rattle.message.specs.Read.{subTlv}
 
 -- the ten octets, in the Value
@@ -13,13 +14,12 @@ portOctets v = take 10 (drop 8 v)
 abbrev pub SameNumbers : List ℕ → List ℕ → Type 0
 SameNumbers v w = (subTlv v .clock ≡ subTlv w .clock) × (subTlv v .port ≡ subTlv w .port)
 
--- Two sub-TLVs have the same numbers exactly if they have the same ten octets. (That each octet is below 256 holds of every string
--- that the code is handed.)
+-- Two sub-TLVs have the same numbers exactly if they have the same ten octets.
 abbrev pub SamePort : Type 0
 SamePort =
     (v w : List ℕ)
     → 20 ≤ length v
     → 20 ≤ length w
-    → ((i : ℕ) → getD v i 0 < 256)
-    → ((i : ℕ) → getD w i 0 < 256)
+    → Octets v
+    → Octets w
     → (SameNumbers v w → portOctets v ≡ portOctets w) × (portOctets v ≡ portOctets w → SameNumbers v w)

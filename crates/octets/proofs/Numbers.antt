@@ -8,7 +8,7 @@ use native.Mathlib.Nat.{pow-suc, add-assoc}
 use native.Mathlib.Omega.{arith}
 use lib.ListN.{length, getD, take, drop, length-append, length-drop}
 use lib.Seq.{getD-at, getD-take, getD-drop, take-suc}
-use Rattle.octets.specs.Octets.{number, octets}
+use Rattle.octets.specs.Octets.{Octets, number, octets}
 
 pub length-octets : (w x : ℕ) → length (octets w x) ≡ w
 length-octets zero x = refl
@@ -40,7 +40,7 @@ number-take zero n i s h = refl
 number-take (suc w) n i s h = rw (number-take w n i s (omega arith), getD-take n s (i + w) 0 (omega arith))
 
 -- the octets of a number that was read are those it was read from
-pub octets-number : (s : List ℕ) → ((i : ℕ) → getD s i 0 < 256) → (w i : ℕ) → i + w ≤ length s → octets w (number w s i) ≡ take w (drop i s)
+pub octets-number : (s : List ℕ) → Octets s → (w i : ℕ) → i + w ≤ length s → octets w (number w s i) ≡ take w (drop i s)
 octets-number s low zero i h = refl
 octets-number s low (suc w) i h =
     let x = number w s i in

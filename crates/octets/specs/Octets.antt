@@ -1,5 +1,5 @@
 -- Big-endian numbers in octets (document 01, The RTM message: "Numbers are big-endian").
-use Prim.Native.Nat.{ℕ, zero, suc, _+_, _*_, _/_, _%_}
+use Prim.Native.Nat.{ℕ, zero, suc, _+_, _*_, _/_, _%_, _<_}
 use mathlib.Core.Bool.{cond}
 use mathlib.Core.List.{List, [], _∷_, _++_}
 use lib.Dec.{leb}
@@ -7,6 +7,10 @@ use lib.IntN.{ℤ}
 use lib.ListN.{length, getD, take, drop}
 use mir.Syntax.{w64}
 use mir.Val.{toZ, ofZ}
+
+-- each element is an octet, as in every string that the code is handed
+abbrev pub Octets : List ℕ → Type 0
+Octets s = (i : ℕ) → getD s i 0 < 256
 
 -- the number in the w octets from place i on; an octet past the end counts as 0
 abbrev pub number : ℕ → List ℕ → ℕ → ℕ

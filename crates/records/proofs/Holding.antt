@@ -2,16 +2,12 @@
 -- Assumes nothing.
 use Prim.Native.Nat.{ℕ, zero, suc}
 use mathlib.Core.Path.{_≡_, refl, sym, _∙_}
-use mathlib.Core.Bool.{Bool, true, false, not, _&&_, true≢false, false≢true}
+use mathlib.Core.Bool.{Bool, true, false, not, _&&_, true≢false, and-eq-true-iff}
 use lib.Dec.{eqb, eqb·suc-zero}
 use borrow.Author.Tests.{eqb-true, eq-eqb}
 use Rattle.records.specs.declared.Identity.{Identity}
 use Rattle.records.specs.declared.Record.{Record}
 use Rattle.records.specs.Slots.{identityOf, same, empty, holds, zeros, agedBy, aged}
-
-and-both : (a b : Bool) → a && b ≡ true → (a ≡ true) × (b ≡ true)
-and-both true b e = (refl, e)
-and-both false b e = absurd (false≢true e)
 
 same-refl : (q : Identity) → same q q ≡ true
 unfolding same
@@ -20,8 +16,8 @@ same-refl q = simp (eq-eqb (q .clock) (q .clock) refl, eq-eqb (q .port) (q .port
 same-sound : (p q : Identity) → same p q ≡ true → p ≡ q
 unfolding same
 same-sound p q e =
-    let c = and-both (eqb (p .clock) (q .clock)) (eqb (p .port) (q .port) && eqb (p .sequence) (q .sequence)) e in
-    let d = and-both (eqb (p .port) (q .port)) (eqb (p .sequence) (q .sequence)) (c .1) in
+    let c = and-eq-true-iff (eqb (p .clock) (q .clock)) (eqb (p .port) (q .port) && eqb (p .sequence) (q .sequence)) .0 e in
+    let d = and-eq-true-iff (eqb (p .port) (q .port)) (eqb (p .sequence) (q .sequence)) .0 (c .1) in
     λ i.
     record {
       clock = eqb-true (p .clock) (q .clock) (c .0) i;
@@ -50,7 +46,7 @@ holds-self s e = rw (e, same-refl (identityOf s))
 
 holds-sound : (q : Identity) (s : Record) → holds q s ≡ true → q ≡ identityOf s
 unfolding holds
-holds-sound q s e = same-sound q (identityOf s) (and-both (not (empty s)) (same q (identityOf s)) e .1)
+holds-sound q s e = same-sound q (identityOf s) (and-eq-true-iff (not (empty s)) (same q (identityOf s)) .0 e .1)
 
 -- a slot with a record of another identity
 pub holds-other : (p q : Identity) (s : Record) → (p ≡ q → ⊥) → holds q s ≡ true → holds p s ≡ false

@@ -6,7 +6,7 @@ use native.Mathlib.Omega.{arith}
 use borrow.Author.Tests.{leb-false, lt-leb}
 use lib.Dec.{leb}
 use Rattle.refusal.specs.Answer.{Answer, value, refused, refuse, andThen}
-use Rattle.refusal.proofs.Answers.{not-both, passes}
+use Rattle.refusal.proofs.Answers.{not-both, same-value, passes}
 use Rattle.residence.specs.declared.Residence.{Residence}
 use Rattle.residence.specs.Residence.{residenceAnswer, limit, acceptedOf, Promise}
 
@@ -16,11 +16,8 @@ below-limit r u e = go (residenceAnswer r) e
     go : (a : Answer ℕ) → andThen a (λ v. refuse 10 (leb limit v) (value v)) ≡ value u → u < limit
     go (value v) p =
         let z = passes 10 (leb limit v) (value v) u p in
-        let same : v ≡ u = out (z .1) in
+        let same : v ≡ u = same-value (z .1) in
         omega (arith, leb-false limit v (z .0))
-      where
-        out : value v ≡ value u → v ≡ u
-        out x = cc
     go (refused n) p = absurd (not-both p)
 
 pub promised : (r : Residence) → ((u : ℕ) → residenceAnswer r ≡ value u → u < limit) → Promise r

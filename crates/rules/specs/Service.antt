@@ -1,10 +1,11 @@
 -- A switchover is never refused in service (document 02, W-201): what node calls, ticks and switchovers make of a new or a loaded table
 -- can always be written.
-use Prim.Native.Nat.{ℕ, _<_}
+use Prim.Native.Nat.{ℕ}
 use mathlib.Core.Path.{_≡_}
 use mathlib.Core.List.{List}
 use mathlib.Core.Option.{some}
-use lib.ListN.{getD, getElem?, replicate}
+use lib.ListN.{getElem?, replicate}
+use Rattle.octets.specs.Octets.{Octets}
 use Rattle.refusal.specs.Answer.{value}
 use Rattle.records.specs.Slots.{Slots, zeros}
 use Rattle.records.specs.Node.{Event, call, final}
@@ -16,9 +17,9 @@ pub data Started : Slots → Type 0 where
   new : Started (replicate 16 zeros)
   loaded : (s : List ℕ) (t : Slots) → loadOf s ≡ value t → Started t
 
--- the messages of a list are octets, as every message is that the code is handed
+-- the messages of a list are octets
 abbrev pub InOctets : List (Event Call) → Type 0
-InOctets es = (k : ℕ) (c : Call) → getElem? es k ≡ some (call c) → (i : ℕ) → getD (c .message) i 0 < 256
+InOctets es = (k : ℕ) (c : Call) → getElem? es k ≡ some (call c) → Octets (c .message)
 
 abbrev pub AlwaysWritten : Type 0
 AlwaysWritten =
