@@ -7,18 +7,6 @@ use borrow.Author.Needs.{needs}
 use Rattle.input.proofs.read.Statement.{statement}
 use Rattle.input.proofs.read.Tie as tie
 
-returns : tie.Need-returns
-returns c = search needs
-
-returns-2 : tie.Need-returns-2
-returns-2 c = search needs
-
-large-buffer-requires : tie.Need-large-buffer-requires
-large-buffer-requires c κs = search needs
-
-array-borrow-prefix-incoming : tie.Need-array-borrow-prefix-incoming
-array-borrow-prefix-incoming c = search needs
-
 slice-aggregate-receive : tie.Need-slice-aggregate-receive
 slice-aggregate-receive c =
     let b = c .before .before in
@@ -28,9 +16,6 @@ receive-requires : tie.Need-receive-requires
 receive-requires c κs =
     let b = c .before .before in
     omega (arith, length-take-le (b .before .before .before .before .args .size) (b .large-buffer .result) (omega arith))
-
-same-length : tie.Need-same-length
-same-length c = search needs
 
 returns-3 : tie.Need-returns-3
 returns-3 c =
@@ -52,11 +37,11 @@ pub read-spec : {M : Type 1} → statement M
 read-spec =
     tie.close
     (tie.spec
-    returns
-    returns-2
-    large-buffer-requires
-    array-borrow-prefix-incoming
+    (λ c. search needs)
+    (λ c. search needs)
+    (λ c κs. search needs)
+    (λ c. search needs)
     slice-aggregate-receive
     receive-requires
-    same-length
+    (λ c. search needs)
     returns-3)

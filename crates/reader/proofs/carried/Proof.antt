@@ -8,15 +8,6 @@ use borrow.Author.Needs.{needs}
 use Rattle.reader.proofs.carried.Statement.{statement}
 use Rattle.reader.proofs.carried.Tie as tie
 
-read-requires : tie.Need-read-requires
-read-requires c κs = search needs
-
-packet-at-requires : tie.Need-packet-at-requires
-packet-at-requires c κs = search needs
-
-after-requires : tie.Need-after-requires
-after-requires c κs = search needs
-
 returns : tie.Need-returns
 returns c =
     let s = c .before .before .before .before .args .s .now in
@@ -24,4 +15,4 @@ returns c =
     c .after .ensures ∙ ap (λ (n : ℕ). drop n s) start
 
 pub carried-spec : {M : Type 1} → statement M
-carried-spec = tie.close (tie.spec read-requires packet-at-requires after-requires returns)
+carried-spec = tie.close (tie.spec (λ c κs. search needs) (λ c κs. search needs) (λ c κs. search needs) returns)

@@ -32,15 +32,6 @@ sound c =
 value-read : (c : tie.After-read-sub-tlv) → subTlvAnswer (c .read-sub-tlv .result) ≡ subTlvOf (messageValue (c .before .before .before .before .before .before .before .before .before .args .s .now))
 value-read c = c .read-sub-tlv .ensures ∙ ap subTlvOf (c .before .after .ensures)
 
-read-header-requires : tie.Need-read-header-requires
-read-header-requires c κs = search needs
-
-enum-known-header : tie.Need-enum-known-header
-enum-known-header c = search needs
-
-enum-known-n : tie.Need-enum-known-n
-enum-known-n c = search needs
-
 returns : tie.Need-returns
 returns c = ap (behind (c .before .before .before .before .before .args .s .now)) (ap headerAnswer (sym (c .before .n .given .1)) ∙ c .before .before .before .read-header .ensures)
 
@@ -61,18 +52,6 @@ returns-4 c =
     let t = c .before .before .before .header .given .0 .0 .«message_type» in
     rw (sound (c .before .before .before)) (simp (ne-eqb t 1 (λ e. omega arith), eq-eqb t 5 (omega arith)))
 
-after-requires : tie.Need-after-requires
-after-requires c κs = search needs
-
-read-sub-tlv-requires : tie.Need-read-sub-tlv-requires
-read-sub-tlv-requires c κs = search needs
-
-enum-known-sub-tlv : tie.Need-enum-known-sub-tlv
-enum-known-sub-tlv c = search needs
-
-enum-known-n-2 : tie.Need-enum-known-n-2
-enum-known-n-2 c = search needs
-
 returns-5 : tie.Need-returns-5
 returns-5 c =
     let t = c .before .before .before .before .before .before .before .before .header .given .0 .0 .«message_type» in
@@ -87,16 +66,16 @@ pub read-spec : {M : Type 1} → statement M
 read-spec =
     tie.close
     (tie.spec
-    read-header-requires
-    enum-known-header
-    enum-known-n
+    (λ c κs. search needs)
+    (λ c. search needs)
+    (λ c. search needs)
     returns
     returns-2
     returns-3
     returns-4
-    after-requires
-    read-sub-tlv-requires
-    enum-known-sub-tlv
-    enum-known-n-2
+    (λ c κs. search needs)
+    (λ c κs. search needs)
+    (λ c. search needs)
+    (λ c. search needs)
     returns-5
     returns-6)

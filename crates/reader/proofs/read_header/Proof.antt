@@ -58,27 +58,6 @@ returns-2 c =
     let s = c .before .before .before .args .s .now in
     simp (le-ltb (length s) 16 (c .before .if1 .left), lt-ltb 2048 (length s) (c .if2 .taken))
 
-sub-size : tie.Need-sub-size
-sub-size c = search needs
-
-shared-slice-read-first : tie.Need-shared-slice-read-first
-shared-slice-read-first c = search needs
-
-read16-requires : tie.Need-read16-requires
-read16-requires c κs = search needs
-
-read16-requires-2 : tie.Need-read16-requires-2
-read16-requires-2 c κs = search needs
-
-cast-length : tie.Need-cast-length
-cast-length c = search needs
-
-read16-requires-3 : tie.Need-read16-requires-3
-read16-requires-3 c κs = search needs
-
-read-signed-requires : tie.Need-read-signed-requires
-read-signed-requires c κs = search needs
-
 returns-3 : tie.Need-returns-3
 returns-3 c =
     let t = tested (c .before) in
@@ -128,13 +107,13 @@ read-header-spec =
     (tie.spec
     returns
     returns-2
-    sub-size
-    shared-slice-read-first
-    read16-requires
-    read16-requires-2
-    cast-length
-    read16-requires-3
-    read-signed-requires
+    (λ c. search needs)
+    (λ c. search needs)
+    (λ c κs. search needs)
+    (λ c κs. search needs)
+    (λ c. search needs)
+    (λ c κs. search needs)
+    (λ c κs. search needs)
     returns-3
     returns-4
     returns-5

@@ -7,24 +7,15 @@ use borrow.Author.Needs.{needs}
 use Rattle.writer.proofs.fit.Statement.{statement}
 use Rattle.writer.proofs.fit.Tie as tie
 
-sub-if1 : tie.Need-sub-if1
-sub-if1 c = search needs
-
 returns : tie.Need-returns
 returns c =
     let a = c .before .args in
     simp (lt-ltb 2048 (a .start + a .carried) (omega arith))
 
-add-if2 : tie.Need-add-if2
-add-if2 c = search needs
-
 returns-2 : tie.Need-returns-2
 returns-2 c =
     let a = c .before .before .args in
     simp (le-ltb 2048 (a .start + a .carried) (omega arith), lt-ltb (a .room) (a .start + a .carried) (omega arith))
-
-add-t4 : tie.Need-add-t4
-add-t4 c = search needs
 
 returns-3 : tie.Need-returns-3
 returns-3 c =
@@ -32,4 +23,4 @@ returns-3 c =
     simp (le-ltb 2048 (a .start + a .carried) (omega arith), le-ltb (a .room) (a .start + a .carried) (omega arith))
 
 pub fit-spec : {M : Type 1} → statement M
-fit-spec = tie.close (tie.spec sub-if1 returns add-if2 returns-2 add-t4 returns-3)
+fit-spec = tie.close (tie.spec (λ c. search needs) returns (λ c. search needs) returns-2 (λ c. search needs) returns-3)

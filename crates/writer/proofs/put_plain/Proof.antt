@@ -9,18 +9,6 @@ use borrow.Author.Needs.{needs}
 use Rattle.writer.proofs.put_plain.Statement.{statement}
 use Rattle.writer.proofs.put_plain.Tie as tie
 
-cast-put-header : tie.Need-cast-put-header
-cast-put-header c = search needs
-
-put-header-requires : tie.Need-put-header-requires
-put-header-requires c κs = search needs
-
-put-requires : tie.Need-put-requires
-put-requires c κs = search needs
-
-same-length : tie.Need-same-length
-same-length c = search needs
-
 returns : tie.Need-returns
 returns c =
     let a = c .before .before .before .before .before .before .before .before .before .before .args in
@@ -29,4 +17,4 @@ returns c =
 
 pub put-plain-spec : {M : Type 1} → statement M
 put-plain-spec =
-    tie.close (tie.spec cast-put-header put-header-requires put-requires same-length returns)
+    tie.close (tie.spec (λ c. search needs) (λ c κs. search needs) (λ c κs. search needs) (λ c. search needs) returns)

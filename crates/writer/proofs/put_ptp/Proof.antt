@@ -11,33 +11,6 @@ use borrow.Author.Needs.{needs}
 use Rattle.writer.proofs.put_ptp.Statement.{statement}
 use Rattle.writer.proofs.put_ptp.Tie as tie
 
-add-put-header : tie.Need-add-put-header
-add-put-header c = search needs
-
-cast-put-header : tie.Need-cast-put-header
-cast-put-header c = search needs
-
-put-header-requires : tie.Need-put-header-requires
-put-header-requires c κs = search needs
-
-sub-put-sub-tlv : tie.Need-sub-put-sub-tlv
-sub-put-sub-tlv c = search needs
-
-part-put-sub-tlv-start : tie.Need-part-put-sub-tlv-start
-part-put-sub-tlv-start c = search needs
-
-part-put-sub-tlv-end : tie.Need-part-put-sub-tlv-end
-part-put-sub-tlv-end c = search needs
-
-put-sub-tlv-requires : tie.Need-put-sub-tlv-requires
-put-sub-tlv-requires c κs = search needs
-
-put-requires : tie.Need-put-requires
-put-requires c κs = search needs
-
-same-length : tie.Need-same-length
-same-length c = search needs
-
 returns : tie.Need-returns
 returns c =
     let a = c .before .before .before .before .before .before .before .before .before .before .before .before .before .before .before .before .args in
@@ -52,13 +25,13 @@ pub put-ptp-spec : {M : Type 1} → statement M
 put-ptp-spec =
     tie.close
     (tie.spec
-    add-put-header
-    cast-put-header
-    put-header-requires
-    sub-put-sub-tlv
-    part-put-sub-tlv-start
-    part-put-sub-tlv-end
-    put-sub-tlv-requires
-    put-requires
-    same-length
+    (λ c. search needs)
+    (λ c. search needs)
+    (λ c κs. search needs)
+    (λ c. search needs)
+    (λ c. search needs)
+    (λ c. search needs)
+    (λ c κs. search needs)
+    (λ c κs. search needs)
+    (λ c. search needs)
     returns)

@@ -21,12 +21,6 @@ returns-2 c =
     let t = a .message-type in
     simp (le-leb 1 t (omega arith), lt-leb t 5 (omega arith))
 
-is-ptp-requires : tie.Need-is-ptp-requires
-is-ptp-requires c κs = search needs
-
-is-sub-tlv-length-requires : tie.Need-is-sub-tlv-length-requires
-is-sub-tlv-length-requires c κs = search needs
-
 returns-3 : tie.Need-returns-3
 returns-3 c =
     let a = c .before .before .before .before .before .before .args in
@@ -42,9 +36,6 @@ returns-4 c =
     let l = sym (c .before .before .is-sub-tlv-length .ensures) ∙ not-true _ (c .if5 .taken) in
     simp (le-leb 1 t (omega arith), le-leb t 5 (omega arith), p, le-ltb 15 (a .sub-tlv .«ptp_type») (omega arith), l)
 
-fit-requires : tie.Need-fit-requires
-fit-requires c κs = search needs
-
 returns-5 : tie.Need-returns-5
 returns-5 c =
     let a = c .before .before .before .before .before .before .before .before .args in
@@ -59,9 +50,6 @@ returns-6 c =
     let t = a .message-type in
     let p = sym (c .before .before .before .is-ptp .ensures) ∙ c .before .before .if3 .left in
     simp (le-leb 1 t (omega arith), le-leb t 5 (omega arith), p, eq-eqb t 1 (omega arith), lt-ltb 0 (a .carried) (omega arith))
-
-fit-requires-2 : tie.Need-fit-requires-2
-fit-requires-2 c κs = search needs
 
 returns-7 : tie.Need-returns-7
 returns-7 c =
@@ -79,12 +67,12 @@ size-spec =
     (tie.spec
     returns
     returns-2
-    is-ptp-requires
-    is-sub-tlv-length-requires
+    (λ c κs. search needs)
+    (λ c κs. search needs)
     returns-3
     returns-4
-    fit-requires
+    (λ c κs. search needs)
     returns-5
     returns-6
-    fit-requires-2
+    (λ c κs. search needs)
     returns-7)

@@ -28,15 +28,6 @@ known c =
 done : (f : Fields) (v o last : List ℕ) (n : ℕ) → answerOf f v o ≡ value n → last ≡ messageOctets f v ++ drop n o → written (Size n) last ≡ writeOf f v o
 done f v o last n e q = rw (e, q)
 
-size-requires : tie.Need-size-requires
-size-requires c κs = search needs
-
-enum-known-n : tie.Need-enum-known-n
-enum-known-n c = search needs
-
-is-ptp-requires : tie.Need-is-ptp-requires
-is-ptp-requires c κs = search needs
-
 put-ptp-requires : tie.Need-put-ptp-requires
 put-ptp-requires c κs =
     let k = known (c .before .before .before .before) in
@@ -49,21 +40,12 @@ put-plain-requires c κs =
     let z = plain-size k (sym (c .before .before .is-ptp .ensures) ∙ c .before .if1 .left) in
     (omega arith, omega arith)
 
-enum-known-n-2 : tie.Need-enum-known-n-2
-enum-known-n-2 c = search needs
-
-same-length : tie.Need-same-length
-same-length c = search needs
-
 returns : tie.Need-returns
 returns c =
     let a = c .before .before .before .before .before .before .before .before .before .before .before .before .before .before .args in
     let p : isPtp (a .fields .header .«message_type») ≡ true = sym (c .before .before .before .before .before .is-ptp .ensures) ∙ c .before .before .before .before .if1 .taken in
     let z = ptp-size (known (c .before .before .before .before .before .before .before)) p in
     done (a .fields) (a .carried .now) (a .out .now) (c .before .before .put-ptp .last .0) (c .before .before .before .before .before .before .before .n .given .0 .0) (sized (c .before .before .before .before .before .before .before)) (rw (p, ← z) (c .before .before .put-ptp .ensures))
-
-same-length-2 : tie.Need-same-length-2
-same-length-2 c = search needs
 
 returns-2 : tie.Need-returns-2
 returns-2 c =
@@ -82,14 +64,14 @@ pub write-spec : {M : Type 1} → statement M
 write-spec =
     tie.close
     (tie.spec
-    size-requires
-    enum-known-n
-    is-ptp-requires
+    (λ c κs. search needs)
+    (λ c. search needs)
+    (λ c κs. search needs)
     put-ptp-requires
     put-plain-requires
-    enum-known-n-2
-    same-length
+    (λ c. search needs)
+    (λ c. search needs)
     returns
-    same-length-2
+    (λ c. search needs)
     returns-2
     returns-3)

@@ -8,36 +8,6 @@ use Rattle.octets.specs.Octets.{number}
 use Rattle.switchover.proofs.bodies.record_at.Statement.{statement}
 use Rattle.switchover.proofs.bodies.record_at.Tie as tie
 
-add-read64 : tie.Need-add-read64
-add-read64 c = search needs
-
-read64-requires : tie.Need-read64-requires
-read64-requires c κs = search needs
-
-add-read16 : tie.Need-add-read16
-add-read16 c = search needs
-
-read16-requires : tie.Need-read16-requires
-read16-requires c κs = search needs
-
-add-read16-2 : tie.Need-add-read16-2
-add-read16-2 c = search needs
-
-read16-requires-2 : tie.Need-read16-requires-2
-read16-requires-2 c κs = search needs
-
-add-read64-2 : tie.Need-add-read64-2
-add-read64-2 c = search needs
-
-read64-requires-2 : tie.Need-read64-requires-2
-read64-requires-2 c κs = search needs
-
-add-read8 : tie.Need-add-read8
-add-read8 c = search needs
-
-read8-requires : tie.Need-read8-requires
-read8-requires c κs = search needs
-
 returns : tie.Need-returns
 returns c =
     let a = c .before .before .before .before .before .before .args in
@@ -59,14 +29,14 @@ pub record-at-spec : {M : Type 1} → statement M
 record-at-spec =
     tie.close
     (tie.spec
-    add-read64
-    read64-requires
-    add-read16
-    read16-requires
-    add-read16-2
-    read16-requires-2
-    add-read64-2
-    read64-requires-2
-    add-read8
-    read8-requires
+    (λ c. search needs)
+    (λ c κs. search needs)
+    (λ c. search needs)
+    (λ c κs. search needs)
+    (λ c. search needs)
+    (λ c κs. search needs)
+    (λ c. search needs)
+    (λ c κs. search needs)
+    (λ c. search needs)
+    (λ c κs. search needs)
     returns)

@@ -29,24 +29,12 @@ loop-holds c =
     let a = c .args in
     (omega arith, simp (length-take-le (a .n) (a .t1) (omega arith), le-leb (a .n) 16 (omega arith)))
 
-mul-record : tie.Need-mul-record Inv-loop μ-loop
-mul-record c = search needs
-
-array-copy-out-record : tie.Need-array-copy-out-record Inv-loop μ-loop
-array-copy-out-record c = search needs
-
-is-sound-requires : tie.Need-is-sound-requires Inv-loop μ-loop
-is-sound-requires c κs = search needs
-
 returns : tie.Need-returns Inv-loop μ-loop
 returns c =
     let p = c .before .before .before .before in
     let a = p .before .args in
     let e : sound (getD (a .t1) (p .loop .i) zeros) ≡ false = sym (c .before .is-sound .ensures) ∙ not-true _ (c .if1 .taken) in
     rw e at (judge-next allowed (a .t1) (a .n) (p .loop .i) (p .loop .inv) (omega arith))
-
-differs-from-rest-requires : tie.Need-differs-from-rest-requires Inv-loop μ-loop
-differs-from-rest-requires c κs = search needs
 
 returns-2 : tie.Need-returns-2 Inv-loop μ-loop
 returns-2 c =
@@ -56,12 +44,6 @@ returns-2 c =
     let e : every (differ (identityOf (getD (a .t1) (p .loop .i) zeros))) rest ≡ false =
     sym (c .before .differs-from-rest .ensures) ∙ not-true _ (c .if2 .taken) in
     rw (e, and-false) at (judge-next allowed (a .t1) (a .n) (p .loop .i) (p .loop .inv) (omega arith))
-
-add-i : tie.Need-add-i Inv-loop μ-loop
-add-i c = search needs
-
-loop-less : tie.Need-loop-less Inv-loop μ-loop
-loop-less c = search needs
 
 loop-again : tie.Need-loop-again Inv-loop μ-loop
 loop-again c =
@@ -86,13 +68,13 @@ are-loadable-spec =
     Inv-loop
     μ-loop
     loop-holds
-    mul-record
-    array-copy-out-record
-    is-sound-requires
+    (λ c. search needs)
+    (λ c. search needs)
+    (λ c κs. search needs)
     returns
-    differs-from-rest-requires
+    (λ c κs. search needs)
     returns-2
-    add-i
-    loop-less
+    (λ c. search needs)
+    (λ c. search needs)
     loop-again
     returns-3)
