@@ -8,7 +8,7 @@ use mathlib.Core.List.{List, [], _∷_, tail, map}
 use mathlib.Core.Option.{Option, none, some}
 use native.Mathlib.Omega.{arith}
 use borrow.Author.Tests.{leb-true, le-leb, lt-ltb, ltb-true, eqb-true, eq-eqb}
-use lib.Dec.{ltb, leb, eqb, eqb·suc-zero}
+use lib.Dec.{leb, eqb, eqb·suc-zero}
 use lib.ListN.{length, set, replicate, length-append, length-replicate, length-map, length-set}
 use Rattle.refusal.specs.Answer.{Answer, value, refused}
 use Rattle.refusal.proofs.Answers.{passes}

@@ -1,7 +1,7 @@
 -- The RTM message as it is read (document 01, The RTM message; Refusal numbers 1 to 8).
 use Prim.Native.Nat.{ℕ, _-_, _/_, _%_}
 use mathlib.Core.Bool.{Bool, cond, not, _&&_, _||_}
-use mathlib.Core.List.{List, []}
+use mathlib.Core.List.{List}
 use lib.Dec.{ltb, leb, eqb}
 use lib.ListN.{length, getD, drop}
 use Rattle.octets.specs.Octets.{number, signedNumber}

@@ -16,6 +16,13 @@ pub fn text(word: &[u8]) -> usize
     word.len()
 }
 
+// Ends the line, and answers how many octets that takes.
+pub fn end_line() -> usize
+    ensures { λ r. ⌜ r ≡ 1 ⌝ }
+{
+    text(b"\n")
+}
+
 // Prints a word and a number behind it, in decimal, and answers how many digits that has.
 pub fn number(word: &[u8], n: u64) -> usize
     ensures { λ r. ⌜ Fewest 10 1 n r ⌝ }

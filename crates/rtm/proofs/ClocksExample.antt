@@ -21,7 +21,6 @@ use Rattle.rules.specs.Path.{Apart, Every, SyncWay, FollowUpWay, FollowUps, bor
 use Rattle.rules.proofs.Samples.{octetsOf, spare, after, visit}
 use Rattle.rules.proofs.PathExample.{mine, theirs, aSync, aFollowUp, apart, other}
 use Rattle.rtm.specs.Stamped.{StampedCall, handed, StampedStop, asStop, syncStamps, total, units}
-use Rattle.rtm.specs.Rounding.{ntpNode}
 use Rattle.rtm.proofs.Runs.{stamped-path-sum}
 use Rattle.rtm.proofs.RoundedPaths.{path-rounded-down}
 

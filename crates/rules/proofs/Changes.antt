@@ -1,7 +1,7 @@
 -- The octets that a node changes, read again: another pad changes the pad alone, a set S changes S alone, and a created message
 -- is a Follow_Up of the Sync's identity with the residence as its pad.
 -- Assumes nothing.
-use Prim.Native.Nat.{ℕ, _+_, _-_, _%_, _<_, _≤_, _^_}
+use Prim.Native.Nat.{ℕ, _+_, _%_, _<_, _≤_, _^_}
 use mathlib.Core.Path.{_≡_, refl, sym, ap, _∙_}
 use mathlib.Core.Bool.{Bool, true}
 use mathlib.Core.List.{List, [], _∷_, _++_}

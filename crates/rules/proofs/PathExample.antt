@@ -1,7 +1,7 @@
 -- The first half of demand 3 can be met: document 01's path of 1,500, 200 and 50 ns, with other calls, refused ones too, ticks,
 -- switchovers, rubbish and doubled records at its nodes.
 -- Assumes nothing.
-use Prim.Native.Nat.{ℕ, _*_, _<_}
+use Prim.Native.Nat.{ℕ, _*_}
 use mathlib.Core.Path.{_≡_, refl, sym, ap, _∙_}
 use mathlib.Core.Bool.{Bool, true, false, true≢false}
 use mathlib.Core.List.{List, [], _∷_, _++_, List·Permᴰ·nil, List·Permᴰ·cons}

@@ -1,6 +1,6 @@
 -- What stamps give: 9 or 10, or units below the limit, as they promise a node, and rounded down by less than one.
 -- Assumes nothing.
-use Prim.Native.Nat.{ℕ, _+_, _*_, _<_, _≤_}
+use Prim.Native.Nat.{ℕ, _*_, _<_, _≤_}
 use mathlib.Core.Path.{_≡_, refl, sym, ap, _∙_}
 use mathlib.Core.Bool.{Bool, true, false, _||_}
 use mathlib.Core.Logic.{_⊎_, inl, inr}
@@ -18,7 +18,7 @@ use Rattle.stamp.specs.declared.stamps.Stamps.the-variants.{Ptp, Ntp}
 use Rattle.stamp.specs.Ptp.{elapsed, nanosecondsOf}
 use Rattle.stamp.specs.Ntp as ntp-specs
 use Rattle.stamp.specs.Stamps.{residenceOf, TooLongAlone, KeepsPromise}
-use Rattle.stamp.specs.Rounding.{exact, NotRounded, RoundedDown}
+use Rattle.stamp.specs.Rounding.{NotRounded, RoundedDown}
 use Rattle.stamp.proofs.Cycle.{accepted}
 
 -- the refusals

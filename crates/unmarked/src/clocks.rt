@@ -48,7 +48,7 @@ fn join<'a>(sync: &'a [u8], follow_up: &'a [u8]) {
         Joined::Refused(n) => print::refused(n),
     }
     ;
-    print::text(b"\n");
+    print::end_line();
 }
 
 // A Sync over a one-step node (1,500 ns) and two two-step nodes (differences of 65,536 and 1), and
@@ -100,7 +100,7 @@ fn switched() {
         ntp_stamps(0, 0),
     );
     print::number(b" pad ", octets::read64(&follow_up, layout::SCRATCH_PAD));
-    print::text(b"\n");
+    print::end_line();
 }
 
 pub(crate) fn run() {

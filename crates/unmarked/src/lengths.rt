@@ -33,7 +33,7 @@ fn show(length: u16) {
     writer::write(&mut message, messages::of_length(3, 0, length), b"\x0A\x0B");
     read(&message);
     create(&mut message);
-    print::text(b"\n");
+    print::end_line();
 }
 
 pub(crate) fn run() {

@@ -12,7 +12,7 @@ fn one_step(units: u64) {
     let mut message = [0u8; 36];
     messages::write(&mut message, messages::of_type(3, 0), b"");
     print::answer(node::handle_one_step(&mut message, Residence::Units(units)));
-    print::text(b"\n");
+    print::end_line();
 }
 
 // A Sync with S clear at a two-step node, with an output of 36 octets.
@@ -30,7 +30,7 @@ fn two_step(units: u64) {
     );
     let answer = done.answer;
     print::answer(answer);
-    print::text(b"\n");
+    print::end_line();
 }
 
 pub(crate) fn run() {

@@ -58,7 +58,7 @@ fn collected() {
     let c = waits::tick(switch(b));
     let d = waits::follow_up(switch(c), types::PTP_IPV4, 2);
     switch(d);
-    print::text(b"\n");
+    print::end_line();
 }
 
 // A record ages over switchovers as it does without.
@@ -68,7 +68,7 @@ fn aged() {
     let b = waits::tick(switch(switch(a)));
     let c = waits::tick(switch(b));
     waits::follow_up(switch(c), types::PTP_IPV4, 1);
-    print::text(b"\n");
+    print::end_line();
 }
 
 // Two records of one identity cannot be written, and a node goes on with them.
@@ -78,7 +78,7 @@ fn doubled() {
         slots: [waits::record(1, 5, 3); 16],
     });
     waits::follow_up(a, types::PTP_IPV4, 1);
-    print::text(b"\n");
+    print::end_line();
 }
 
 // An image of two bodies, and the same with their offsets, 5 and 26, exchanged: the table that came
@@ -90,7 +90,7 @@ fn exchanged() {
     octets::put(&mut image, 1, b"\x00\x1A\x00\x05");
     let a = load(waits::sync(Table::new(), 3), &image);
     waits::follow_up(a, types::PTP_IPV4, 3);
-    print::text(b"\n");
+    print::end_line();
 }
 
 // An image of one body, zeros with this wait.
@@ -100,7 +100,7 @@ fn one_body(wait: u8) {
     octets::put(&mut image, 0, b"\x01\x00\x03");
     octets::put(&mut image, 23, &[wait]);
     load(Table::new(), &image);
-    print::text(b"\n");
+    print::end_line();
 }
 
 pub(crate) fn run() {

@@ -87,7 +87,7 @@ fn full() {
     let c = follow_up(b, types::PTP_IPV4, 1);
     let d = follow_up(c, types::PTP_IPV4, 1);
     sync(d, 1);
-    print::text(b"\n");
+    print::end_line();
 }
 
 // No record: an identity of zeros is an ordinary one, and an empty slot holds none.
@@ -105,7 +105,7 @@ fn none() {
         1,
     );
     sync(c, 1);
-    print::text(b"\n");
+    print::end_line();
 }
 
 // Two ticks are in time, three are not. Type is no part of the identity.
@@ -116,7 +116,7 @@ fn ageing() {
     print::text(b"\nthree ticks");
     let b = tick(tick(tick(sync(Table::new(), 1))));
     follow_up(b, types::PTP_IPV4, 1);
-    print::text(b"\n");
+    print::end_line();
 }
 
 // A message of this PTPType that comes with a residence that is refused.
@@ -128,7 +128,7 @@ fn without_residence(ptp_type: u8, residence: Residence) {
         fields(types::PTP_IPV4, ptp_type, 1),
         residence,
     );
-    print::text(b"\n");
+    print::end_line();
 }
 
 pub(crate) fn run() {

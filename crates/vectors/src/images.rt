@@ -16,7 +16,6 @@ fn write_in(out: &mut [u8], body: &[u8]) {
     }
     ;
     format::hex(b" out ", out);
-    print::text(b"\n");
 }
 
 pub(crate) fn run_write(body: &[u8]) {
@@ -35,5 +34,4 @@ pub(crate) fn run_load(body: &[u8]) {
             print::number(b" refused ", n as u64);
         }
     }
-    print::text(b"\n");
 }

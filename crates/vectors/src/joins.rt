@@ -11,7 +11,6 @@ fn join<'a>(sync: &'a [u8], follow_up: &'a [u8]) {
         }
     }
     format::hex(b" packet ", egress::shown(sync, follow_up));
-    print::text(b"\n");
 }
 
 pub(crate) fn run(body: &[u8]) {

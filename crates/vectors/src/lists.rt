@@ -10,7 +10,6 @@ pub(crate) fn run_count(body: &[u8]) {
         Count::Refused(n) => print::refused(n),
     }
     ;
-    print::text(b"\n");
 }
 
 fn entry(list: &[u8], place: usize) {
@@ -21,7 +20,6 @@ fn entry(list: &[u8], place: usize) {
     }
     ;
     format::hex(b" ", rtm_set::entry(list, place));
-    print::text(b"\n");
 }
 
 pub(crate) fn run_entry(body: &[u8]) {

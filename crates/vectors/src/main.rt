@@ -32,8 +32,9 @@ fn run(operation: u8, body: &[u8]) {
         14 => residences::run_ntp(body),
         15 => one_step::run_ntp(body),
         16 => two_step::run_ntp(body),
-        _ => {}
+        _ => return,
     }
+    print::end_line();
 }
 
 // Runs the next case. Answers false where there is none.

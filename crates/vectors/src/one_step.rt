@@ -6,7 +6,6 @@ use stamp::Stamps;
 fn run_in(message: &mut [u8], stamps: Stamps) {
     print::answer(rtm::one_step(message, stamps));
     format::hex(b" message ", message);
-    print::text(b"\n");
 }
 
 fn run_with(stamps: Stamps, body: &[u8]) {

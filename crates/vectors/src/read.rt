@@ -9,7 +9,6 @@ pub(crate) fn run(body: &[u8]) {
     let message = format::counted(body);
     print::text(b"read ");
     show(message);
-    print::text(b"\n");
 }
 
 pub(crate) fn run_length(body: &[u8]) {
@@ -17,7 +16,6 @@ pub(crate) fn run_length(body: &[u8]) {
     print::text(b"read-length ");
     show(message);
     print_length(reader::read(message));
-    print::text(b"\n");
 }
 
 fn show(message: &[u8]) {

@@ -1,5 +1,4 @@
 // Operations 3 and 14: the residence between two stamps.
-use crate::format;
 use crate::stamps;
 use residence::Residence;
 use stamp::Stamps;
@@ -11,7 +10,6 @@ fn show(stamps: Stamps) {
         Residence::TooLong => print::refused(refusal::TOO_LONG_RESIDENCE),
     }
     ;
-    print::text(b"\n");
 }
 
 pub(crate) fn run(body: &[u8]) {

@@ -18,7 +18,6 @@ fn run_in(message: &mut [u8], out: &mut [u8], stamps: Stamps, body: &[u8]) {
     format::hex(b" message ", message);
     format::hex(b" out ", out);
     tables::show(done.table);
-    print::text(b"\n");
 }
 
 fn run_with(stamps: Stamps, body: &[u8]) {

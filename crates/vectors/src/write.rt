@@ -32,7 +32,6 @@ fn write_in(out: &mut [u8], fields: Fields, carried: &[u8]) {
     }
     ;
     format::hex(b" out ", out);
-    print::text(b"\n");
 }
 
 // Writes into an output of the size that the rest of the body gives: room (2), and the carried

@@ -10,7 +10,7 @@ use refusal::Written;
 ghost use mathlib.Core.Path.{_≡_};
 ghost use Prim.Native.Nat.{_+_, _≤_};
 ghost use mathlib.Core.List.{_++_};
-ghost use lib.ListN.{length, take, drop};
+ghost use lib.ListN.{length, drop};
 ghost use Rattle.message.specs.Write.{headerOctets, subTlvHeader, flagOctets, subTlvOctets, plainOctets, ptpOctets, isPtp, fitOf, sizeOf, writeOf};
 ghost use Rattle.refusal.specs.Written.{writtenAnswer, written};
 

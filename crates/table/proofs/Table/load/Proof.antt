@@ -4,7 +4,7 @@ use mathlib.Core.Path.{sym, ap, _∙_}
 use lib.ListN.{replicate}
 use borrow.Author.Needs.{needs}
 use Rattle.records.specs.Slots.{zeros}
-use Rattle.image.specs.Image.{Load, loadOf}
+use Rattle.image.specs.Image.{loadOf}
 use Rattle.switchover.specs.declared.loader.Loading.{Loading}
 use Rattle.switchover.specs.Answers.{loadingAnswer}
 use Rattle.table.proofs.Reloads.{loaded-alike, refused-alike}
