@@ -24,11 +24,6 @@ pub record SoundHeader (s : List ℕ) : Type 0 where
   pub size : lengthField s ≡ length s - 16
   pub known : isType (header s .«message_type») ≡ true
 
-pub header-taken : (s : List ℕ) → SoundHeader s → headerOf s ≡ value (header s)
-header-taken s k =
-    simp
-    (le-ltb (length s) 16 (k .long), le-ltb 2048 (length s) (k .short), k .rtm, eq-eqb (version s) 0 (k .current), eq-eqb (lengthField s) (length s - 16) (k .size), k .known)
-
 pub header-sound : (s : List ℕ) (h : Header) → headerOf s ≡ value h → SoundHeader s × (header s ≡ h)
 header-sound s h e =
     let e6 : Answer Header = refuse 6 (not (isType (header s .«message_type»))) (value (header s)) in
@@ -57,10 +52,6 @@ header-sound s h e =
 pub stated-length : (v : List ℕ) → isSubTlv v ≡ true → isSubTlvLength (number 2 v 2) ≡ true
 stated-length v e = and-eq-true-iff (eqb (number 2 v 0) 1) (isSubTlvLength (number 2 v 2)) .0 e .1
 
--- a Value whose sub-TLV has nothing to refuse
-pub sub-tlv-taken : (v : List ℕ) → 20 ≤ length v → isSubTlv v ≡ true → subTlvOf v ≡ value (subTlv v)
-sub-tlv-taken v long is = simp (le-ltb (length v) 20 long, is)
-
 -- a message of types 2 to 4 that has nothing to refuse
 pub record SoundPtp (s : List ℕ) : Type 0 where
   pub sound : SoundHeader s
@@ -68,14 +59,6 @@ pub record SoundPtp (s : List ℕ) : Type 0 where
   pub not-five : header s .«message_type» ≡ 5 → ⊥
   pub long : 36 ≤ length s
   pub is : isSubTlv (messageValue s) ≡ true
-
-pub ptp-taken : (s : List ℕ) → SoundPtp s → readOf s ≡ value (ptp (header s) (subTlv (messageValue s)))
-ptp-taken s k =
-    let t = header s .«message_type» in
-    let v = messageValue s in
-    let l : 20 ≤ length v = simp length-drop (omega (arith, k .long)) in
-    ap (λ (a : Answer Header). andThen a (λ h. messageOf h v)) (header-taken s (k .sound))
-    ∙ simp (ne-eqb t 1 (k .not-one), ne-eqb t 5 (k .not-five), sub-tlv-taken v l (k .is))
 
 pub ptp-sound : (s : List ℕ) (h : Header) (t : SubTlv) → readOf s ≡ value (ptp h t) → SoundPtp s × (header s ≡ h) × (subTlv (messageValue s) ≡ t)
 ptp-sound s h t e = by-header (headerOf s) refl e
@@ -126,3 +109,20 @@ ptp-sound s h t e = by-header (headerOf s) refl e
     by-header : (a : Answer Header) → headerOf s ≡ a → andThen a (λ g. messageOf g (messageValue s)) ≡ value (ptp h t) → Claim
     by-header (refused n) q r = absurd (not-both r)
     by-header (value g) q r = by-one g q (eqb (g .«message_type») 1) refl r
+
+-- and that is enough to be taken
+pub header-taken : (s : List ℕ) → SoundHeader s → headerOf s ≡ value (header s)
+header-taken s k =
+    simp
+    (le-ltb (length s) 16 (k .long), le-ltb 2048 (length s) (k .short), k .rtm, eq-eqb (version s) 0 (k .current), eq-eqb (lengthField s) (length s - 16) (k .size), k .known)
+
+pub sub-tlv-taken : (v : List ℕ) → 20 ≤ length v → isSubTlv v ≡ true → subTlvOf v ≡ value (subTlv v)
+sub-tlv-taken v long is = simp (le-ltb (length v) 20 long, is)
+
+pub ptp-taken : (s : List ℕ) → SoundPtp s → readOf s ≡ value (ptp (header s) (subTlv (messageValue s)))
+ptp-taken s k =
+    let t = header s .«message_type» in
+    let v = messageValue s in
+    let l : 20 ≤ length v = simp length-drop (omega (arith, k .long)) in
+    ap (λ (a : Answer Header). andThen a (λ h. messageOf h v)) (header-taken s (k .sound))
+    ∙ simp (ne-eqb t 1 (k .not-one), ne-eqb t 5 (k .not-five), sub-tlv-taken v l (k .is))

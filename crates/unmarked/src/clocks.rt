@@ -2,8 +2,8 @@
 // at a switchover.
 use crate::messages;
 use crate::switchovers;
+use crate::waits;
 use egress::Joined;
-use message::layout;
 use message::types;
 use stamp::Stamps;
 use stamp::ntp;
@@ -73,33 +73,11 @@ fn path() {
 
 // The longest NTP residence waits, goes to another card and is added there.
 fn switched() {
-    print::text(b"longest NTP residence");
-    let mut sync = [0u8; 36];
-    let mut follow_up = [0u8; 36];
-    let mut spare = [0u8; 36];
-    messages::write(
-        &mut sync,
-        messages::with_flag(types::SYNC, messages::SEQUENCE, 0),
-        b"",
-    );
-    messages::write(
-        &mut follow_up,
-        messages::with_flag(types::FOLLOW_UP, messages::SEQUENCE, 0),
-        b"",
-    );
-    let kept = hand(
-        Table::new(),
-        &mut sync,
-        &mut spare,
-        ntp_stamps(3, 4_294_967_295),
-    );
-    hand(
-        switchovers::switch(kept),
-        &mut follow_up,
-        &mut spare,
-        ntp_stamps(0, 0),
-    );
-    print::number(b" pad ", octets::read64(&follow_up, layout::SCRATCH_PAD));
+    print::text(b"longest NTP residence, ");
+    let sync = waits::fields(types::PTP_IPV4, types::SYNC, 1);
+    let longest = stamp::residence_of(ntp_stamps(3, 4_294_967_295));
+    let kept = waits::hand(Table::new(), sync, longest);
+    waits::follow_up(switchovers::switch(kept), types::PTP_IPV4, 1);
     print::end_line();
 }
 

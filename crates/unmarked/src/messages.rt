@@ -12,11 +12,6 @@ pub(crate) const PORT: u16 = 1;
 
 pub(crate) const SEQUENCE: u16 = 258;
 
-// The ends of the pad's range.
-pub(crate) const LOWEST: i64 = -9_223_372_036_854_775_808;
-
-pub(crate) const HIGHEST: i64 = 9_223_372_036_854_775_807;
-
 // A message of any Type with this pad: what it says beside the pad is that of a Sync with S clear.
 pub(crate) fn of_type(message_type: u16, pad: i64) -> Fields {
     of_length(message_type, pad, layout::PTP_SUB_TLV_LENGTH)
@@ -32,23 +27,6 @@ pub(crate) fn of_length(message_type: u16, pad: i64, length: u16) -> Fields {
         clock: CLOCK,
         port: PORT,
         sequence: SEQUENCE,
-    };
-    Fields { header, sub_tlv }
-}
-
-// A message of type 3 with S set.
-pub(crate) fn with_flag(ptp_type: u8, sequence: u16, pad: i64) -> Fields {
-    let header = Header {
-        message_type: types::PTP_IPV4,
-        pad,
-    };
-    let sub_tlv = SubTlv {
-        length: layout::PTP_SUB_TLV_LENGTH,
-        two_step: true,
-        ptp_type,
-        clock: CLOCK,
-        port: PORT,
-        sequence,
     };
     Fields { header, sub_tlv }
 }

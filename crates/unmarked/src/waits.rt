@@ -22,7 +22,7 @@ pub(crate) fn record(identity: u16, residence: u64, wait: u8) -> Record {
 }
 
 // A message of this Type with S set and pad 0.
-fn fields(message_type: u16, ptp_type: u8, identity: u16) -> Fields {
+pub(crate) fn fields(message_type: u16, ptp_type: u8, identity: u16) -> Fields {
     let header = Header {
         message_type,
         pad: 0,
@@ -39,7 +39,7 @@ fn fields(message_type: u16, ptp_type: u8, identity: u16) -> Fields {
 }
 
 // Hands a message to the node, prints the answer and the pad, and hands the table on.
-fn hand(table: Table, fields: Fields, residence: Residence) -> Table {
+pub(crate) fn hand(table: Table, fields: Fields, residence: Residence) -> Table {
     let mut message = [0u8; 36];
     let mut output = [0u8; 36];
     messages::write(&mut message, fields, b"");
