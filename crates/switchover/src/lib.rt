@@ -10,4 +10,5 @@ mod writer;
 pub use loader::Loaded;
 pub use loader::Loading;
 pub use loader::load;
+pub use refusal::Written;
 pub use writer::write;

@@ -2,8 +2,8 @@
 // back by each operation"). Every table value is good input.
 use records::Identity;
 use records::Record;
-use refusal::Written;
-use switchover::Loading;
+pub use refusal::Written;
+pub use switchover::Loading;
 ghost use mathlib.Core.Path.{_≡_};
 ghost use lib.ListN.{replicate};
 ghost use Rattle.records.specs.Slots.{empty, holds, zeros, lowest, aged};

@@ -4,7 +4,7 @@ use message::Header;
 use message::SubTlv;
 use message::layout;
 use message::types;
-use refusal::Written;
+use writer::Written;
 
 pub(crate) const CLOCK: u64 = 0x0001_0203_0405_0607;
 

@@ -3,9 +3,9 @@ use crate::messages;
 use crate::waits;
 use message::types;
 use records::Record;
-use refusal::Written;
-use switchover::Loading;
+use table::Loading;
 use table::Table;
+use table::Written;
 
 // The largest image, of 16 records.
 const LARGEST: usize = 369;

@@ -1,9 +1,9 @@
 // Operations 10 and 11: the image of a table, written and loaded.
 use crate::format;
 use crate::tables;
-use refusal::Written;
-use switchover::Loading;
+use table::Loading;
 use table::Table;
+use table::Written;
 
 // Where the room stands in the body, behind the table.
 const ROOM: usize = 336;

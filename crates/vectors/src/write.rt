@@ -4,7 +4,7 @@ use message::Fields;
 use message::Header;
 use message::SubTlv;
 use message::layout;
-use refusal::Written;
+use writer::Written;
 
 // The fields of the body, in their order: Type (2), pad (8), s (1), PTPType (1), port (10),
 // sequence (2). The sub-TLV's length is given apart.

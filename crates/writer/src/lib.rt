@@ -6,7 +6,7 @@ use message::SubTlv;
 use message::is_sub_tlv_length;
 use message::layout;
 use message::types;
-use refusal::Written;
+pub use refusal::Written;
 ghost use mathlib.Core.Path.{_≡_};
 ghost use Prim.Native.Nat.{_+_, _≤_};
 ghost use mathlib.Core.List.{_++_};
