@@ -27,7 +27,7 @@ returns-3 c =
       record {
         within = omega arith;
         fits = omega arith;
-        stays = e .1 .1;
+        beyond = e .1 .1;
         no-room = λ h. omega arith;
         too-many = λ h. omega arith;
       },
@@ -37,10 +37,7 @@ pub read-spec : {M : Type 1} → statement M
 read-spec =
     tie.close
     (tie.spec
-    (λ c. search needs)
-    (λ c. search needs)
-    (λ c κs. search needs)
-    (λ c. search needs)
+    (λ c. search needs) (λ c. search needs) (λ c κs. search needs) (λ c. search needs)
     slice-aggregate-receive
     receive-requires
     (λ c. search needs)
