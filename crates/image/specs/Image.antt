@@ -9,7 +9,7 @@ use Rattle.refusal.specs.Written.{Write}
 use Rattle.residence.specs.Residence.{limit}
 use Rattle.records.specs.declared.Identity.{Identity}
 use Rattle.records.specs.declared.Record.{Record}
-use Rattle.records.specs.Slots.{Slots, identityOf, same, zeros, recordsOf}
+use Rattle.records.specs.Slots.{Slots, Outcome, identityOf, same, zeros, recordsOf}
 use Rattle.image.specs.Layout.{Form, fit, imageOctets, isLaidOut, bodiesIn}
 
 -- "each port, sequence, stay in 8 octets and wait (21 octets)": the port is a clock identity in 8 octets and a port number in 2
@@ -79,15 +79,11 @@ loadOf s = refuse 22 (not (isLaidOut form s && loadable (recordsAt s))) (value (
 
 -- Loading it over a table, by the answer (0 says that it was loaded) and the slots afterwards: "A load replaces the table"; a refusal
 -- leaves the one that came.
-pub record Load : Type 0 where
-  pub answer : Answer ℕ
-  pub slots : Slots
-
-abbrev pub loadBy : Slots → Answer Slots → Load
+abbrev pub loadBy : Slots → Answer Slots → Outcome
 loadBy t (value u) = record { answer = value 0; slots = u }
 loadBy t (refused n) = record { answer = refused n; slots = t }
 
-abbrev pub loadInto : List ℕ → Slots → Load
+abbrev pub loadInto : List ℕ → Slots → Outcome
 loadInto s t = loadBy t (loadOf s)
 
 -- A switchover: the table is written, and the image loaded by the card that takes over. Where the write is refused there is none, and

@@ -11,9 +11,9 @@ use Rattle.residence.specs.declared.Residence.{Residence}
 use Rattle.residence.specs.Residence.{acceptedOf}
 use Rattle.scratch_pad.specs.Sum.{inRange, sumOf}
 use Rattle.records.specs.declared.Identity.{Identity}
-use Rattle.records.specs.Slots.{Slots, removeFrom}
+use Rattle.records.specs.Slots.{Slots, Outcome, removeFrom}
 use Rattle.records.specs.Node.{collect, tableAnswer, collectLeaves}
-use Rattle.table.specs.Table.{Outcome, addOf}
+use Rattle.table.specs.Table.{addOf}
 use Rattle.rules.specs.Change.{padOf, withPad}
 use Rattle.rules.specs.Rules.{sync, followUp, keepIn, gather, asItCame, added, summed, callBy, rules}
 use Rattle.node.specs.Calls.{twoStepCall}

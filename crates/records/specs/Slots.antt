@@ -13,6 +13,11 @@ use Rattle.records.specs.declared.Record.{Record}
 abbrev pub Slots : Type 0
 Slots = List Record
 
+-- what an operation on a table answers, and the slots afterwards
+pub record Outcome : Type 0 where
+  pub answer : Answer ℕ
+  pub slots : Slots
+
 -- "The identity of a Sync or Follow_Up is its port and sequence; zeros are an ordinary identity."
 abbrev pub identityOf : Record → Identity
 identityOf r = record { clock = r .clock; port = r .port; sequence = r .sequence }

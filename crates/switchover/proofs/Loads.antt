@@ -10,9 +10,9 @@ use lib.ListN.{length, take, replicate, length-map}
 use lib.Seq.{take-at}
 use Rattle.refusal.specs.Answer.{value, refused, refuse}
 use Rattle.records.specs.declared.Record.{Record}
-use Rattle.records.specs.Slots.{Slots, zeros}
+use Rattle.records.specs.Slots.{Slots, Outcome, zeros}
 use Rattle.image.specs.Layout.{fieldsAt, bodySize, firstBody, offsets, countIn, isLaidOut, bodiesIn}
-use Rattle.image.specs.Image.{form, recordOf, every, sound, distinct, loadable, filled, recordsAt, loadOf, Load, loadBy, loadInto}
+use Rattle.image.specs.Image.{form, recordOf, every, sound, distinct, loadable, filled, recordsAt, loadOf, loadBy, loadInto}
 use Rattle.image.proofs.Layouts.{length-places}
 
 -- the records that fill the slots are the first of them
@@ -42,7 +42,7 @@ module _ (s : List ℕ) where
       unloadable (ap (λ (b : Bool). b && (every sound rs && distinct rs)) (lt-leb (length rs) 16 (omega (arith, length-records))))
 
   -- a refusal that hands back slots of zeros
-  pub not-loaded : (slot : Record) (l : Load) → slot ≡ zeros → l ≡ loadBy (replicate 16 slot) (refused 22) → loadOf s ≡ refused 22 → l ≡ loadInto s (replicate 16 zeros)
+  pub not-loaded : (slot : Record) (l : Outcome) → slot ≡ zeros → l ≡ loadBy (replicate 16 slot) (refused 22) → loadOf s ≡ refused 22 → l ≡ loadInto s (replicate 16 zeros)
   not-loaded slot l z e r = e ∙ (λ i. loadBy (replicate 16 (z i)) (sym r i))
 
   -- what was read of n bodies, where the octets say n: the records that they hold

@@ -1,7 +1,7 @@
 -- The loader's answers, in the papers' numbers.
 use Prim.Native.Nat.{ℕ}
 use Rattle.refusal.specs.Answer.{Answer, value, refused}
-use Rattle.image.specs.Image.{Load}
+use Rattle.records.specs.Slots.{Outcome}
 use Rattle.switchover.specs.declared.loader.Loading.{Loading}
 use Rattle.switchover.specs.declared.loader.Loading.the-variants as loading
 use Rattle.switchover.specs.declared.loader.Loaded.{Loaded}
@@ -12,5 +12,5 @@ loadingAnswer loading.Replaced = value 0
 loadingAnswer (loading.Refused n) = refused n
 
 -- what was answered, with the slots that were handed back
-abbrev pub loaded : Loaded → Load
+abbrev pub loaded : Loaded → Outcome
 loaded r = record { answer = loadingAnswer (r .answer); slots = r .slots }

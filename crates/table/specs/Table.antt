@@ -3,9 +3,8 @@ use Prim.Native.Nat.{ℕ}
 use mathlib.Core.Bool.{true}
 use Rattle.refusal.specs.Answer.{Answer, value, refused}
 use Rattle.records.specs.declared.Identity.{Identity}
-use Rattle.records.specs.Slots.{Slots, ticked, emptied}
+use Rattle.records.specs.Slots.{Slots, Outcome, ticked, emptied}
 use Rattle.records.specs.Node.{Request, add, collect, tableAnswer, tableAfter}
-use Rattle.image.specs.Image.{Load}
 use Rattle.switchover.specs.Answers.{loadingAnswer}
 use Rattle.table.specs.declared.Entry.{Entry}
 use Rattle.table.specs.declared.Entry.the-variants as entry
@@ -15,11 +14,6 @@ use Rattle.table.specs.declared.Entered.{Entered}
 use Rattle.table.specs.declared.Taken.{Taken}
 use Rattle.table.specs.declared.Ticked.{Ticked}
 use Rattle.table.specs.declared.Reloaded.{Reloaded}
-
--- an answer, and the slots afterwards
-pub record Outcome : Type 0 where
-  pub answer : Answer ℕ
-  pub slots : Slots
 
 -- "waiting" says no number: 0
 abbrev pub entryAnswer : Entry → Answer ℕ
@@ -54,5 +48,5 @@ abbrev pub tickOf : Slots → Outcome
 tickOf t = record { answer = value (emptied t); slots = ticked t }
 
 -- loading an image, which leaves the table that came where it is refused (`image` Image.`loadInto`)
-abbrev pub reloaded : Reloaded → Load
+abbrev pub reloaded : Reloaded → Outcome
 reloaded r = record { answer = loadingAnswer (r .answer); slots = r .table .slots }

@@ -5,7 +5,8 @@ use mathlib.Core.Bool.{true}
 use Rattle.refusal.specs.Answer.{value, refused}
 use Rattle.scratch_pad.specs.Sum.{sumAnswer}
 use Rattle.records.specs.Node.{collect, tableAnswer, collectLeaves}
-use Rattle.table.specs.Table.{Outcome, foundAnswer}
+use Rattle.records.specs.Slots.{Outcome}
+use Rattle.table.specs.Table.{foundAnswer}
 use Rattle.rules.specs.Rules.{added, padBy}
 use Rattle.node.proofs.Replies.{absent, gathered, too-far}
 use borrow.Author.Needs.{needs}
