@@ -3,7 +3,7 @@
 -- Assumes nothing.
 use Prim.Native.Nat.{ℕ, zero, suc, _-_, _<_, _≤_}
 use mathlib.Core.Path.{_≡_, refl, sym, ap, _∙_}
-use mathlib.Core.Bool.{Bool, true, false, not, cond, _&&_, and-eq-true-iff}
+use mathlib.Core.Bool.{Bool, true, false, not, cond, _&&_, false≢true, and-eq-true-iff}
 use mathlib.Core.List.{List, [], _∷_, _++_, map}
 use native.Mathlib.Omega.{arith}
 use borrow.Author.Tests.{leb-true, ltb-true, ne-eqb, not-true, not-false}
@@ -13,10 +13,12 @@ use lib.Seq.{take-append-seam}
 use Rattle.refusal.specs.Answer.{Answer, value, refused, refuse, andThen}
 use Rattle.refusal.proofs.Answers.{not-both, same-value, passes}
 use Rattle.residence.specs.Residence.{limit}
+use Rattle.records.specs.declared.RecordKind.{RecordKind}
+use Rattle.records.specs.declared.RecordKind.the-variants.{Sync, Delay}
 use Rattle.records.specs.declared.Record.{Record}
 use Rattle.records.specs.Slots.{Slots, empty, zeros, recordsOf}
 use Rattle.image.specs.Layout.{fit, imageSize, imageOctets, isLaidOut}
-use Rattle.image.specs.Image.{form, fieldsOf, recordOf, rightWait, rightResidence, sound, every, distinct, loadable, imageOf, fitting, writeBy, writeOf, filled, recordsAt, loadOf, takenOver, switched}
+use Rattle.image.specs.Image.{form, fieldsOf, recordOf, rightWait, rightResidence, sound, isSync, ofSync, every, distinct, loadable, imageOf, fitting, writeBy, writeOf, filled, recordsAt, loadOf, takenOver, switched}
 use Rattle.image.specs.Return.{WrittenLoads, AsSwitched}
 use Rattle.image.proofs.Layouts.{allFit, length-image, image-laid-out, image-bodies}
 
@@ -53,11 +55,15 @@ records-filled t = full-filled (recordsOf t) (records-full t)
 
 -- ---- records that can be loaded
 
-pub loadable-parts : (rs : Slots) → loadable rs ≡ true → (length rs ≤ 16) × (every sound rs ≡ true) × (distinct rs ≡ true)
+pub loadable-parts :
+    (rs : Slots)
+    → loadable rs ≡ true
+    → (length rs ≤ 16) × (every sound rs ≡ true) × (every ofSync rs ≡ true) × (distinct rs ≡ true)
 loadable-parts rs h =
-    let k = and-eq-true-iff (leb (length rs) 16) (every sound rs && distinct rs) .0 h in
-    let l = and-eq-true-iff (every sound rs) (distinct rs) .0 (k .1) in
-    (leb-true (length rs) 16 (k .0), l .0, l .1)
+    let k = and-eq-true-iff (leb (length rs) 16) (every sound rs && (every ofSync rs && distinct rs)) .0 h in
+    let l = and-eq-true-iff (every sound rs) (every ofSync rs && distinct rs) .0 (k .1) in
+    let m = and-eq-true-iff (every ofSync rs) (distinct rs) .0 (l .1) in
+    (leb-true (length rs) 16 (k .0), l .0, m .0, m .1)
 
 -- a record of an image, by its numbers
 record Held (r : Record) : Type 0 where
@@ -98,10 +104,28 @@ sound-fit (r ∷ rs) h =
 
 -- ---- the image written, and loaded
 
--- a record's fields make the record
-records-made : (rs : Slots) → map recordOf (map fieldsOf rs) ≡ rs
-records-made [] = refl
-records-made (r ∷ rs) = ap (λ (l : Slots). r ∷ l) (records-made rs)
+-- a record of kind Sync is made of its fields
+sync-kind : (k : RecordKind) → isSync k ≡ true → Sync ≡ k
+sync-kind Sync e = refl
+sync-kind Delay e = absurd (false≢true e)
+
+record-made : (r : Record) → ofSync r ≡ true → recordOf (fieldsOf r) ≡ r
+unfolding ofSync
+record-made r e i =
+    record {
+      kind = sync-kind (r .kind) e i;
+      clock = r .clock;
+      port = r .port;
+      sequence = r .sequence;
+      residence = r .residence;
+      wait = r .wait;
+    }
+
+records-made : (rs : Slots) → every ofSync rs ≡ true → map recordOf (map fieldsOf rs) ≡ rs
+records-made [] h = refl
+records-made (r ∷ rs) h =
+    let k = and-eq-true-iff (ofSync r) (every ofSync rs) .0 h in
+    λ i. record-made r (k .0) i ∷ records-made rs (k .1) i
 
 pub load-taken : (s : List ℕ) (rs : Slots) → isLaidOut form s ≡ true → recordsAt s ≡ rs → loadable rs ≡ true → loadOf s ≡ value (filled rs)
 load-taken s rs l e h =
@@ -123,7 +147,7 @@ loads-back rs h =
     let fits = sound-fit rs (k .1) in
     load-taken (imageOctets form bs) rs
     (image-laid-out form bs fits (omega arith) (omega arith))
-    (ap (λ (l : List (List ℕ)). map recordOf l) (image-bodies form bs fits (omega arith) (omega arith)) ∙ records-made rs)
+    (ap (λ (l : List (List ℕ)). map recordOf l) (image-bodies form bs fits (omega arith) (omega arith)) ∙ records-made rs (k .2))
     h
 
 -- what holds of a string of octets that loads

@@ -20,8 +20,8 @@ use Rattle.records.specs.Node.{Request, nothing, add, collect, tableAnswer, add
 use Rattle.records.proofs.Holding.{decide, holds-empty, holds-self, holds-other, withWait}
 use Rattle.records.proofs.View.{view, viewAged, no-view, view-remove-own, view-remove-other, view-ticked, view-add-own, view-add-other}
 use Rattle.image.specs.Layout.{fit, isLaidOut}
-use Rattle.image.specs.Image.{form, fieldsOf, rightResidence, sound, every, differ, distinct, loadable, filled, recordsAt, loadOf, switched}
-use Rattle.image.proofs.Returns.{loadable-parts, load-sound, switched-loaded, switched-keeps}
+use Rattle.image.specs.Image.{form, fieldsOf, rightResidence, sound, ofSync, every, differ, distinct, loadable, filled, recordsAt, loadOf, switched}
+use Rattle.image.proofs.Returns.{loadable-parts, load-sound, switched-loaded, switched-refused, switched-keeps}
 
 -- ---- sound records
 
@@ -174,15 +174,15 @@ records-fewer (s ∷ t) = go (empty s) (records-fewer t)
     go true h = omega arith
     go false h = omega arith
 
-pub serving-loadable : (t : Slots) → Serving t → loadable (recordsOf t) ≡ true
-serving-loadable t v =
+pub serving-loadable : (t : Slots) → Serving t → every ofSync (recordsOf t) ≡ true → loadable (recordsOf t) ≡ true
+serving-loadable t v h =
     let few = le-leb (length (recordsOf t)) 16 (omega (arith, records-fewer t, v .slots)) in
-    rw (few, records-sound t, v .sounds, single-distinct t (v .single))
+    rw (few, records-sound t, v .sounds, h, single-distinct t (v .single))
 
 pub loadable-serving : (t : Slots) → length t ≡ 16 → loadable (recordsOf t) ≡ true → Serving t
 loadable-serving t l h =
     let k = loadable-parts (recordsOf t) h in
-    record { slots = l; sounds = sym (records-sound t) ∙ k .1; single = distinct-single t (k .2) }
+    record { slots = l; sounds = sym (records-sound t) ∙ k .1; single = distinct-single t (k .3) }
 
 -- records that can be loaded, filled up with empty slots; a new table and a loaded one are such
 filled-serving : (t rs : Slots) → t ≡ filled rs → recordsOf t ≡ rs → loadable rs ≡ true → Serving t
@@ -271,8 +271,10 @@ serving-request commits (collect q) t s v = go (tableAnswer (collect q) t)
     go (value u) = taken (commits u)
     go (refused n) = v
 
--- a switchover
+-- a switchover, or none where the table cannot be written
 pub serving-switched : (t : Slots) → Serving t → Serving (switched t)
-serving-switched t v =
-    let h = serving-loadable t v in
-    filled-serving (switched t) (recordsOf t) (switched-loaded t h) (switched-keeps t) h
+serving-switched t v = go (loadable (recordsOf t)) refl
+  where
+    go : (b : Bool) → loadable (recordsOf t) ≡ b → Serving (switched t)
+    go true h = filled-serving (switched t) (recordsOf t) (switched-loaded t h) (switched-keeps t) h
+    go false h = rw (switched-refused t h) v

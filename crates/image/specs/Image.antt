@@ -1,18 +1,21 @@
 -- The table as an image, written and loaded (document 02, W-201).
 use Prim.Native.Nat.{ℕ, _-_}
-use mathlib.Core.Bool.{Bool, true, not, _&&_}
+use mathlib.Core.Bool.{Bool, true, false, not, _&&_}
 use mathlib.Core.List.{List, [], _∷_, _++_, map}
 use lib.Dec.{ltb, leb}
 use lib.ListN.{length, getD, drop, replicate}
 use Rattle.refusal.specs.Answer.{Answer, value, refused, refuse, andThen}
 use Rattle.refusal.specs.Written.{Write}
 use Rattle.residence.specs.Residence.{limit}
+use Rattle.records.specs.declared.RecordKind.{RecordKind}
+use Rattle.records.specs.declared.RecordKind.the-variants.{Sync, Delay}
 use Rattle.records.specs.declared.Identity.{Identity}
 use Rattle.records.specs.declared.Record.{Record}
 use Rattle.records.specs.Slots.{Slots, Outcome, identityOf, same, zeros, recordsOf}
 use Rattle.image.specs.Layout.{Form, fit, imageOctets, isLaidOut, bodiesIn}
 
--- "each port, sequence, stay in 8 octets and wait (21 octets)": the port is a clock identity in 8 octets and a port number in 2
+-- "each port, sequence, stay in 8 octets and wait (21 octets)": the port is a clock identity in 8 octets and a port number in 2. No
+-- octet says the kind: what is loaded is of kind Sync (W-204).
 abbrev pub form : Form
 form = record { lead = []; widths = 8 ∷ 2 ∷ 2 ∷ 8 ∷ 1 ∷ [] }
 
@@ -20,7 +23,8 @@ abbrev pub fieldsOf : Record → List ℕ
 fieldsOf r = r .clock ∷ r .port ∷ r .sequence ∷ r .residence ∷ r .wait ∷ []
 
 abbrev pub recordOf : List ℕ → Record
-recordOf b = record { clock = getD b 0 0; port = getD b 1 0; sequence = getD b 2 0; residence = getD b 3 0; wait = getD b 4 0 }
+recordOf b =
+    record { kind = Sync; clock = getD b 0 0; port = getD b 1 0; sequence = getD b 2 0; residence = getD b 3 0; wait = getD b 4 0 }
 
 -- "waits are 1 to 3"
 abbrev pub rightWait : Record → Bool
@@ -46,9 +50,17 @@ abbrev pub distinct : Slots → Bool
 distinct [] = true
 distinct (r ∷ rs) = every (differ (identityOf r)) rs && distinct rs
 
+-- "22 for an image of a table that holds a Delay record" (W-204)
+abbrev pub isSync : RecordKind → Bool
+isSync Sync = true
+isSync Delay = false
+
+unfoldable pub ofSync : Record → Bool
+ofSync r = isSync (r .kind)
+
 -- the records that an image can hold, "up to 16"
 abbrev pub loadable : Slots → Bool
-loadable rs = leb (length rs) 16 && (every sound rs && distinct rs)
+loadable rs = leb (length rs) 16 && (every sound rs && (every ofSync rs && distinct rs))
 
 -- The image of a table, its records "in slot order"; 22 "for writing a table that could not be loaded". Empty slots do not count.
 abbrev pub imageOf : Slots → Answer (List ℕ)

@@ -10,13 +10,25 @@ use Rattle.refusal.proofs.Answers.{not-both}
 use Rattle.residence.specs.declared.Residence.{Residence}
 use Rattle.residence.specs.Residence.{acceptedOf}
 use Rattle.scratch_pad.specs.Sum.{inRange, sumOf}
+use Rattle.records.specs.declared.RecordKind.{RecordKind}
+use Rattle.records.specs.declared.RecordKind.the-variants.{Sync, Delay}
 use Rattle.records.specs.declared.Identity.{Identity}
 use Rattle.records.specs.Slots.{Slots, Outcome, removeFrom}
 use Rattle.records.specs.Node.{collect, tableAnswer, collectLeaves}
 use Rattle.table.specs.Table.{addOf}
 use Rattle.rules.specs.Change.{padOf, withPad}
-use Rattle.rules.specs.Rules.{sync, followUp, keepIn, gather, asItCame, added, summed, callBy, rules}
+use Rattle.rules.specs.Rules.{sync, followUp, firstOf, secondOf, keepIn, gather, asItCame, added, summed, callBy, rules}
 use Rattle.node.specs.Calls.{twoStepCall}
+
+-- a Delay_Req is handled as a Sync with S set is, and a Delay_Resp as a Follow_Up
+module _ (t : Slots) (q : Identity) (m o : List ℕ) (x : Residence) where
+  pub first-alike : (k : RecordKind) → callBy t (twoStepCall m o x) (sync q true) ≡ callBy t (twoStepCall m o x) (firstOf k q)
+  first-alike Sync = refl
+  first-alike Delay = refl
+
+  pub second-alike : (k : RecordKind) → callBy t (twoStepCall m o x) (followUp q) ≡ callBy t (twoStepCall m o x) (secondOf k q)
+  second-alike Sync = refl
+  second-alike Delay = refl
 
 -- a residence that the table was asked to keep
 pub kept :

@@ -3,6 +3,7 @@ use Prim.Native.Nat.{ℕ}
 use mathlib.Core.List.{List}
 use Rattle.refusal.specs.Answer as answer
 use Rattle.records.specs.Slots.{Slots}
+use Rattle.table.specs.Table.{slotsOf}
 use Rattle.rules.specs.Rules as rules
 use Rattle.node.specs.declared.answer.Answer.{Answer}
 use Rattle.node.specs.declared.answer.Answer.the-variants.{Updated, Passed, Created, Waiting, Added, Refused}
@@ -26,7 +27,7 @@ replied r m o = record { answer = wordAnswer r; message = m; output = o }
 
 -- and with the table handed back
 abbrev pub done : Done → List ℕ → List ℕ → rules.Done
-done r m o = record { reply = replied (r .answer) m o; slots = r .table .slots }
+done r m o = record { reply = replied (r .answer) m o; slots = slotsOf (r .table) }
 
 -- a one-step call is lent no output and handed no table: whatever they are, they stay
 abbrev pub doneAlone : Answer → List ℕ → List ℕ → Slots → rules.Done
@@ -40,6 +41,8 @@ unitsAnswer (accepted.Refused n) = answer.refused n
 abbrev pub kindAnswer : Handling → rules.Kind
 kindAnswer (handling.Sync q s) = rules.sync q s
 kindAnswer (handling.FollowUp q) = rules.followUp q
+kindAnswer (handling.DelayReq q) = rules.delayReq q
+kindAnswer (handling.DelayResp q) = rules.delayResp q
 kindAnswer handling.Timed = rules.timed
 kindAnswer handling.Untimed = rules.untimed
 kindAnswer (handling.Unreadable n) = rules.unreadable n

@@ -3,38 +3,54 @@ use message::SubTlv;
 use message::types;
 use reader::Reading;
 use records::Identity;
+use records::RecordKind;
 ghost use mathlib.Core.Path.{_≡_};
-ghost use Rattle.rules.specs.Rules.{ptpKind, kindOf};
+ghost use Rattle.rules.specs.Rules.{identityIn, ptpKind, kindOf};
 ghost use Rattle.node.specs.Answers.{kindAnswer};
 
 pub enum Handling {
     // A Sync, and its S bit.
     Sync(Identity, bool),
     FollowUp(Identity),
-    // Types 1 and 5, and PTPTypes 1 to 3.
+    DelayReq(Identity),
+    DelayResp(Identity),
+    // Types 1 and 5, and PTPTypes 2 and 3.
     Timed,
-    // PTPTypes 4 to 7 and 9 to 15.
+    // PTPTypes 4 to 7 and 10 to 15.
     Untimed,
     Unreadable(u8),
+}
+
+// The identity of a message whose record is of this kind.
+fn identity_in(kind: RecordKind, sub_tlv: SubTlv) -> Identity
+    ensures { λ r. ⌜ r ≡ identityIn kind «sub_tlv» ⌝ }
+{
+    Identity {
+        kind,
+        clock: sub_tlv.clock,
+        port: sub_tlv.port,
+        sequence: sub_tlv.sequence,
+    }
 }
 
 fn of_ptp(sub_tlv: SubTlv) -> Handling
     ensures { λ r. ⌜ kindAnswer r ≡ ptpKind «sub_tlv» ⌝ }
 {
-    let identity = Identity {
-        clock: sub_tlv.clock,
-        port: sub_tlv.port,
-        sequence: sub_tlv.sequence,
-    };
     let ptp_type = sub_tlv.ptp_type;
     if ptp_type == types::SYNC {
-        return Handling::Sync(identity, sub_tlv.two_step);
+        return Handling::Sync(identity_in(RecordKind::Sync, sub_tlv), sub_tlv.two_step);
+    }
+    if ptp_type == types::DELAY_REQ {
+        return Handling::DelayReq(identity_in(RecordKind::Delay, sub_tlv));
     }
     if ptp_type <= types::PDELAY_RESP {
         return Handling::Timed;
     }
     if ptp_type == types::FOLLOW_UP {
-        return Handling::FollowUp(identity);
+        return Handling::FollowUp(identity_in(RecordKind::Sync, sub_tlv));
+    }
+    if ptp_type == types::DELAY_RESP {
+        return Handling::DelayResp(identity_in(RecordKind::Delay, sub_tlv));
     }
     Handling::Untimed
 }

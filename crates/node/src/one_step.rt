@@ -39,8 +39,10 @@ pub fn handle_one_step(message: &mut [u8], residence: Residence) -> Answer
 {
     match kind::classify(message) {
         Handling::Sync(_, _) => update_pad(message, residence),
+        Handling::DelayReq(_) => update_pad(message, residence),
         Handling::Timed => update_pad(message, residence),
         Handling::FollowUp(_) => Answer::Passed,
+        Handling::DelayResp(_) => Answer::Passed,
         Handling::Untimed => Answer::Passed,
         Handling::Unreadable(n) => Answer::Refused(n),
     }

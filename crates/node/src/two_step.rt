@@ -1,4 +1,5 @@
-// The two-step node: a Sync's residence goes to its Follow_Up, which the node creates or waits for.
+// The two-step node: a Sync's residence goes to its Follow_Up, which the node creates or waits for,
+// and a Delay_Req's to its Delay_Resp.
 use crate::answer;
 use crate::answer::Accepted;
 use crate::answer::Answer;
@@ -22,7 +23,9 @@ ghost use lib.ListN.{length};
 ghost use Rattle.refusal.specs.Answer.{value};
 ghost use Rattle.residence.specs.declared.Residence.{Residence};
 ghost use Rattle.residence.specs.Residence.{acceptedOf};
-ghost use Rattle.rules.specs.Rules.{createIn, callBy, callOf, sync, followUp};
+ghost use Rattle.records.specs.declared.RecordKind.{RecordKind};
+ghost use Rattle.table.specs.Table.{slotsOf};
+ghost use Rattle.rules.specs.Rules.{createIn, callBy, callOf, sync, delayReq, firstOf, secondOf};
 ghost use Rattle.node.specs.Answers.{replied, done};
 ghost use Rattle.node.specs.Calls.{twoStepCall};
 
@@ -42,11 +45,13 @@ fn create(message: &mut [u8], output: &mut [u8], residence: Residence, units: u6
     Answer::Created
 }
 
-// A Sync with S set: its residence waits in the table, or refusal 13 or 14. Whatever message and
-// output the call has, they stay.
+// A Sync with S set, or a Delay_Req: its residence waits in the table, or refusal 13 or 14. Whatever
+// message and output the call has, they stay.
 fn keep(table: Table, identity: Identity, units: u64) -> Done
     ensures { λ r. ⌜
-        ((m o : List ℕ) (x : Residence) → acceptedOf x ≡ value units → done r m o ≡ callBy (table .slots) (twoStepCall m o x) (sync identity true))
+        ((k : RecordKind) (m o : List ℕ) (x : Residence)
+        → acceptedOf x ≡ value units
+        → done r m o ≡ callBy (slotsOf table) (twoStepCall m o x) (firstOf k identity))
         ⌝ }
 {
     let entered = table.add(identity, units);
@@ -76,7 +81,7 @@ fn handle_sync(
     requires { ⌜ 36 ≤ length (now message) ⌝ }
     ensures { λ r. ⌜
         done r (now (message .exit)) (now (output .exit))
-        ≡ callBy (table .slots) (twoStepCall (now (message .entry)) (now (output .entry)) residence) (sync identity flag)
+        ≡ callBy (slotsOf table) (twoStepCall (now (message .entry)) (now (output .entry)) residence) (sync identity flag)
         ⌝ }
 {
     match answer::accept(residence) {
@@ -94,12 +99,29 @@ fn handle_sync(
     }
 }
 
-// A Follow_Up: refusal 15 where no record waits for it; 11 where the sum does not fit, and the
-// record stays; or the record's residence is added and its slot emptied. Residence and output of
-// the call are not looked at.
+// A Delay_Req, whatever its S bit: refusals 9 and 10, or its residence waits. Whatever message and
+// output the call has, they stay.
+fn handle_delay(table: Table, residence: Residence, identity: Identity) -> Done
+    ensures { λ r. ⌜
+        ((m o : List ℕ) → done r m o ≡ callBy (slotsOf table) (twoStepCall m o residence) (delayReq identity))
+        ⌝ }
+{
+    match answer::accept(residence) {
+        Accepted::Units(units) => keep(table, identity, units),
+        Accepted::Refused(n) => Done {
+            table,
+            answer: Answer::Refused(n),
+        },
+    }
+}
+
+// A Follow_Up, or a Delay_Resp: refusal 15 where no record waits for it; 11 where the sum does not
+// fit, and the record stays; or the record's residence is added and its slot emptied. S, residence
+// and output of the call are not looked at.
 fn gather(table: Table, message: &mut [u8], identity: Identity) -> Done
     ensures { λ r. ⌜
-        ((o : List ℕ) (x : Residence) → done r (now (message .exit)) o ≡ callBy (table .slots) (twoStepCall (now (message .entry)) o x) (followUp identity))
+        ((k : RecordKind) (o : List ℕ) (x : Residence)
+        → done r (now (message .exit)) o ≡ callBy (slotsOf table) (twoStepCall (now (message .entry)) o x) (secondOf k identity))
         ⌝ }
 {
     match table.find(identity) {
@@ -125,8 +147,8 @@ fn gather(table: Table, message: &mut [u8], identity: Identity) -> Done
 }
 
 // A message at a two-step node: created, waiting, added or passed; refusals 1 to 8 of reading, then
-// 16; for a Sync 9, 10, and 12 where S is clear or 13, 14 where set; for a Follow_Up 15, 11. A
-// refusal leaves message, output and table as they came.
+// 16; for a Sync 9, 10, and 12 where S is clear or 13, 14 where set; for a Delay_Req 9, 10, 13, 14;
+// for a Follow_Up or a Delay_Resp 15, 11. A refusal leaves message, output and table as they came.
 pub fn handle_two_step(
     table: Table,
     message: &mut [u8],
@@ -135,7 +157,7 @@ pub fn handle_two_step(
 ) -> Done
     ensures { λ r. ⌜
         done r (now (message .exit)) (now (output .exit))
-        ≡ callOf (table .slots) (twoStepCall (now (message .entry)) (now (output .entry)) residence)
+        ≡ callOf (slotsOf table) (twoStepCall (now (message .entry)) (now (output .entry)) residence)
         ⌝ }
 {
     match kind::classify(message) {
@@ -143,6 +165,8 @@ pub fn handle_two_step(
             handle_sync(table, message, output, residence, identity, flag)
         }
         Handling::FollowUp(identity) => gather(table, message, identity),
+        Handling::DelayReq(identity) => handle_delay(table, residence, identity),
+        Handling::DelayResp(identity) => gather(table, message, identity),
         Handling::Timed => Done {
             table,
             answer: Answer::Refused(refusal::NOT_FOR_TWO_STEP),

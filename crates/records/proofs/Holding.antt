@@ -4,22 +4,41 @@ use Prim.Native.Nat.{ℕ, zero, suc}
 use mathlib.Core.Path.{_≡_, refl, sym, _∙_}
 use mathlib.Core.Bool.{Bool, true, false, not, _&&_, true≢false, and-eq-true-iff}
 use lib.Dec.{eqb, eqb·suc-zero}
+use native.Mathlib.Omega.{arith}
 use borrow.Author.Tests.{eqb-true, eq-eqb}
+use Rattle.records.specs.declared.RecordKind.{RecordKind}
+use Rattle.records.specs.declared.RecordKind.the-variants.{Sync, Delay}
 use Rattle.records.specs.declared.Identity.{Identity}
 use Rattle.records.specs.declared.Record.{Record}
-use Rattle.records.specs.Slots.{identityOf, same, empty, holds, zeros, agedBy, aged}
+use Rattle.records.specs.Slots.{kindNumber, identityOf, same, empty, holds, zeros, agedBy, aged}
 
-same-refl : (q : Identity) → same q q ≡ true
+-- a kind is known by its number
+same-kind : (k l : RecordKind) → kindNumber k ≡ kindNumber l → k ≡ l
+same-kind Sync Sync e = refl
+same-kind Sync Delay e = absurd (omega arith)
+same-kind Delay Sync e = absurd (omega arith)
+same-kind Delay Delay e = refl
+
+pub same-refl : (q : Identity) → same q q ≡ true
 unfolding same
-same-refl q = simp (eq-eqb (q .clock) (q .clock) refl, eq-eqb (q .port) (q .port) refl, eq-eqb (q .sequence) (q .sequence) refl)
+same-refl q =
+    simp (
+      eq-eqb (kindNumber (q .kind)) (kindNumber (q .kind)) refl,
+      eq-eqb (q .clock) (q .clock) refl,
+      eq-eqb (q .port) (q .port) refl,
+      eq-eqb (q .sequence) (q .sequence) refl,
+    )
 
 same-sound : (p q : Identity) → same p q ≡ true → p ≡ q
 unfolding same
 same-sound p q e =
-    let c = and-eq-true-iff (eqb (p .clock) (q .clock)) (eqb (p .port) (q .port) && eqb (p .sequence) (q .sequence)) .0 e in
+    let place = eqb (p .clock) (q .clock) && (eqb (p .port) (q .port) && eqb (p .sequence) (q .sequence)) in
+    let k = and-eq-true-iff (eqb (kindNumber (p .kind)) (kindNumber (q .kind))) place .0 e in
+    let c = and-eq-true-iff (eqb (p .clock) (q .clock)) (eqb (p .port) (q .port) && eqb (p .sequence) (q .sequence)) .0 (k .1) in
     let d = and-eq-true-iff (eqb (p .port) (q .port)) (eqb (p .sequence) (q .sequence)) .0 (c .1) in
     λ i.
     record {
+      kind = same-kind (p .kind) (q .kind) (eqb-true (kindNumber (p .kind)) (kindNumber (q .kind)) (k .0)) i;
       clock = eqb-true (p .clock) (q .clock) (c .0) i;
       port = eqb-true (p .port) (q .port) (d .0) i;
       sequence = eqb-true (p .sequence) (q .sequence) (d .1) i;
@@ -58,7 +77,7 @@ holds-other p q s ne h = go (holds p s) refl
 
 -- a slot with another wait
 abbrev pub withWait : Record → ℕ → Record
-withWait s w = record { clock = s .clock; port = s .port; sequence = s .sequence; residence = s .residence; wait = w }
+withWait s w = record { kind = s .kind; clock = s .clock; port = s .port; sequence = s .sequence; residence = s .residence; wait = w }
 
 pub holds-aged : (q : Identity) (s : Record) → holds q (aged s) ≡ holds q s && not (empty (aged s))
 unfolding holds

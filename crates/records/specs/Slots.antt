@@ -7,6 +7,8 @@ use mathlib.Core.Option.{Option, none, some}
 use lib.Dec.{ltb, eqb}
 use lib.ListN.{length, getElem?, set}
 use Rattle.refusal.specs.Answer.{Answer, value, refused, refuse}
+use Rattle.records.specs.declared.RecordKind.{RecordKind}
+use Rattle.records.specs.declared.RecordKind.the-variants.{Sync, Delay}
 use Rattle.records.specs.declared.Identity.{Identity}
 use Rattle.records.specs.declared.Record.{Record}
 
@@ -18,12 +20,19 @@ pub record Outcome : Type 0 where
   pub answer : Answer ℕ
   pub slots : Slots
 
--- "The identity of a Sync or Follow_Up is its port and sequence; zeros are an ordinary identity."
+-- "A record gains its kind, Sync or Delay" (document 02, W-204), here as a number
+abbrev pub kindNumber : RecordKind → ℕ
+kindNumber Sync = 0
+kindNumber Delay = 1
+
+-- "and identity .. becomes kind, port and sequence"; "zeros are an ordinary identity"
 abbrev pub identityOf : Record → Identity
-identityOf r = record { clock = r .clock; port = r .port; sequence = r .sequence }
+identityOf r = record { kind = r .kind; clock = r .clock; port = r .port; sequence = r .sequence }
 
 unfoldable pub same : Identity → Identity → Bool
-same p q = eqb (p .clock) (q .clock) && (eqb (p .port) (q .port) && eqb (p .sequence) (q .sequence))
+same p q =
+    eqb (kindNumber (p .kind)) (kindNumber (q .kind))
+    && (eqb (p .clock) (q .clock) && (eqb (p .port) (q .port) && eqb (p .sequence) (q .sequence)))
 
 -- "A slot is empty exactly when its wait is 0, and only the other slots hold records"
 abbrev pub empty : Record → Bool
@@ -38,9 +47,9 @@ recordsOf (s ∷ t) = cond (empty s) (recordsOf t) (s ∷ recordsOf t)
 unfoldable pub holds : Identity → Record → Bool
 holds q s = not (empty s) && same q (identityOf s)
 
--- "a slot emptied by an operation is all zeros"
+-- "a slot emptied by an operation is all zeros", of kind Sync
 abbrev pub zeros : Record
-zeros = record { clock = 0; port = 0; sequence = 0; residence = 0; wait = 0 }
+zeros = record { kind = Sync; clock = 0; port = 0; sequence = 0; residence = 0; wait = 0 }
 
 -- the lowest slot that passes a test, or the number of slots where none does
 abbrev pub lowest : (Record → Bool) → Slots → ℕ
@@ -55,9 +64,10 @@ abbrev pub found : Option Record → Bool
 found none = false
 found (some r) = true
 
--- "port, sequence, stay in pad units and a wait of 3 go into the lowest empty slot": 13 identity already waiting, 14 no empty slot
+-- "port, sequence, stay in pad units and a wait of 3 go into the lowest empty slot", and the kind with them: 13 identity already waiting,
+-- 14 no empty slot
 abbrev pub fresh : Identity → ℕ → Record
-fresh q u = record { clock = q .clock; port = q .port; sequence = q .sequence; residence = u; wait = 3 }
+fresh q u = record { kind = q .kind; clock = q .clock; port = q .port; sequence = q .sequence; residence = u; wait = 3 }
 
 abbrev pub vacant : Slots → Bool
 vacant t = ltb (lowest empty t) (length t)
@@ -68,7 +78,7 @@ addAnswer r room = refuse 13 (found r) (refuse 14 (not room) (value 0))
 abbrev pub addTo : Identity → ℕ → Slots → Slots
 addTo q u t = set t (lowest empty t) (fresh q u)
 
--- "the record with its port and sequence is added to its pad and its slot emptied": 15 Follow_Up with no record
+-- "the record with its port and sequence is added to its pad and its slot emptied": 15 Follow_Up with no record, or Delay_Resp (W-204)
 abbrev pub collectAnswer : Option Record → Answer ℕ
 collectAnswer none = refused 15
 collectAnswer (some r) = value (r .residence)
@@ -81,7 +91,7 @@ abbrev pub agedBy : ℕ → Record → Record
 agedBy zero s = s
 agedBy (suc zero) s = zeros
 agedBy (suc (suc w)) s =
-    record { clock = s .clock; port = s .port; sequence = s .sequence; residence = s .residence; wait = suc w }
+    record { kind = s .kind; clock = s .clock; port = s .port; sequence = s .sequence; residence = s .residence; wait = suc w }
 
 abbrev pub aged : Record → Record
 aged s = agedBy (s .wait) s

@@ -2,10 +2,19 @@
 // specs/ and proofs/, what a table of them does and the theorem that the order of calls at a node
 // does not matter. The table itself is the crate `table`.
 ghost use mathlib.Core.Path.{_≡_};
-ghost use Rattle.records.specs.Slots.{identityOf, same, zeros as zeros·spec};
+ghost use Rattle.records.specs.Slots.{kindNumber, identityOf, same, zeros as zeros·spec};
 
-// The identity of a Sync or a Follow_Up: its port identity, in two numbers, and its sequence.
+// What a record is kept for: a Sync, whose residence goes on its Follow_Up, or a Delay_Req, whose
+// residence goes on its Delay_Resp (document 02, W-204).
+pub enum RecordKind {
+    Sync,
+    Delay,
+}
+
+// The identity of a Sync or Follow_Up, a Delay_Req or Delay_Resp: its kind, its port identity, in
+// two numbers, and its sequence.
 pub struct Identity {
+    pub kind: RecordKind,
     pub clock: u64,
     pub port: u16,
     pub sequence: u16,
@@ -15,6 +24,7 @@ pub struct Identity {
 // it holds a record: an identity, a residence (document 01's "stay") in pad units, and the number
 // of ticks after which it is gone.
 pub struct Record {
+    pub kind: RecordKind,
     pub clock: u64,
     pub port: u16,
     pub sequence: u16,
@@ -22,11 +32,28 @@ pub struct Record {
     pub wait: u8,
 }
 
+impl RecordKind {
+    // 0 Sync, 1 Delay.
+    pub fn number(self) -> u8
+        ensures { λ r. ⌜ r ≡ kindNumber self ⌝ }
+    {
+        match self {
+            RecordKind::Sync => 0,
+            RecordKind::Delay => 1,
+        }
+    }
+}
+
 impl Identity {
-    // The two are the same: clock identity, port number and sequence.
+    // The two are the same: kind, clock identity, port number and sequence.
     pub fn equals(self, other: Identity) -> bool
         ensures { λ r. ⌜ r ≡ same self other ⌝ }
     {
+        let kind = self.kind;
+        let other_kind = other.kind;
+        if kind.number() != other_kind.number() {
+            return false;
+        }
         if self.clock != other.clock {
             return false;
         }
@@ -42,7 +69,9 @@ impl Record {
     pub fn identity(self) -> Identity
         ensures { λ r. ⌜ r ≡ identityOf self ⌝ }
     {
+        let kind = self.kind;
         Identity {
+            kind,
             clock: self.clock,
             port: self.port,
             sequence: self.sequence,
@@ -54,6 +83,7 @@ impl Record {
         ensures { λ r. ⌜ r ≡ zeros·spec ⌝ }
     {
         Record {
+            kind: RecordKind::Sync,
             clock: 0,
             port: 0,
             sequence: 0,

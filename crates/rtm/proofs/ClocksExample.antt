@@ -16,11 +16,11 @@ use Rattle.stamp.specs.Rounding.{exact}
 use Rattle.records.specs.Slots.{Slots, same, holds, zeros}
 use Rattle.records.specs.Node.{tick, call}
 use Rattle.rules.specs.Change.{padOf}
-use Rattle.rules.specs.Rules.{Mode, oneStep, twoStep, updated, created, waiting, added}
-use Rattle.rules.specs.Path.{Apart, Every, SyncWay, FollowUpWay, FollowUps, born}
-use Rattle.rules.proofs.Samples.{octetsOf, spare, after, visit}
-use Rattle.rules.proofs.PathExample.{mine, theirs, aSync, aFollowUp, apart, other}
-use Rattle.rtm.specs.Stamped.{StampedCall, handed, StampedStop, asStop, syncStamps, total, units}
+use Rattle.rules.specs.Rules.{sync, Mode, oneStep, twoStep, updated, created, waiting, added}
+use Rattle.rules.specs.Path.{Apart, Every, of-sync, FirstWay, SecondWay, FollowUps, born}
+use Rattle.rules.proofs.Samples.{octetsOf, spare, after, visit, other, apart}
+use Rattle.rules.proofs.PathExample.{mine, theirs, aSync, aFollowUp}
+use Rattle.rtm.specs.Stamped.{StampedCall, handed, StampedStop, asStop, firstStamps, total, units}
 use Rattle.rtm.proofs.Runs.{stamped-path-sum}
 use Rattle.rtm.proofs.RoundedPaths.{path-rounded-down}
 
@@ -51,10 +51,10 @@ abbrev followUpThird : StampedCall
 followUpThird = handedIn twoStep (aFollowUp 15258) (nanoseconds 1000000000)
 
 abbrev first : StampedStop
-first = record { mode = oneStep; table = new; events = call syncFirst ∷ []; syncPlace = 0; followUpPlace = none }
+first = record { mode = oneStep; table = new; events = call syncFirst ∷ []; firstPlace = 0; secondPlace = none }
 
 abbrev second : StampedStop
-second = record { mode = twoStep; table = new; events = call syncSecond ∷ []; syncPlace = 0; followUpPlace = none }
+second = record { mode = twoStep; table = new; events = call syncSecond ∷ []; firstPlace = 0; secondPlace = none }
 
 -- here calls have stamps of both formats
 abbrev third : StampedStop
@@ -69,8 +69,8 @@ third =
           ∷ call (handedIn twoStep (octetsOf theirs true 0 (pos 0)) (pastWrap 9))
           ∷ call followUpThird
           ∷ [];
-      syncPlace = 1;
-      followUpPlace = some 4;
+      firstPlace = 1;
+      secondPlace = some 4;
     }
 
 abbrev path : List StampedStop
@@ -80,16 +80,16 @@ path = first ∷ second ∷ third ∷ []
 abbrev left : List ℕ
 left = aFollowUp 15258 ++ replicate 4 0
 
-sync-way : SyncWay (aSync false 0) (map asStop path) (aSync true 98304000)
+sync-way : FirstWay (aSync false 0) (map asStop path) (aSync true 98304000)
 unfolding same holds
 sync-way =
-    SyncWay.cross (visit (asStop first) 0 (handed syncFirst) updated (aSync false 98304000) spare refl refl refl)
-    (SyncWay.cross (visit (asStop second) 0 (handed syncSecond) created (aSync true 98304000) left refl refl refl)
-    (SyncWay.cross (visit (asStop third) 1 (handed syncThird) waiting (aSync true 98304000) spare refl refl refl) SyncWay.done))
+    FirstWay.cross (visit (asStop first) 0 (handed syncFirst) updated (aSync false 98304000) spare refl refl refl)
+    (FirstWay.cross (visit (asStop second) 0 (handed syncSecond) created (aSync true 98304000) left refl refl refl)
+    (FirstWay.cross (visit (asStop third) 1 (handed syncThird) waiting (aSync true 98304000) spare refl refl refl) FirstWay.done))
 
-follow-up-way : FollowUpWay (aFollowUp 15258) (asStop third ∷ []) (aFollowUp 61034)
+follow-up-way : SecondWay (aFollowUp 15258) (asStop third ∷ []) (aFollowUp 61034)
 unfolding same holds
-follow-up-way = FollowUpWay.cross 4 refl (visit (asStop third) 4 (handed followUpThird) added (aFollowUp 61034) spare refl refl refl) FollowUpWay.done
+follow-up-way = SecondWay.cross 4 refl (visit (asStop third) 4 (handed followUpThird) added (aFollowUp 61034) spare refl refl refl) SecondWay.done
 
 follow-ups : FollowUps mine false (map asStop path) (pos 0) (padOf (aFollowUp 61034))
 unfolding same holds
@@ -100,18 +100,18 @@ follow-ups =
 all-apart : Every (Apart mine) (map asStop path)
 unfolding same holds
 all-apart = (
-  apart (asStop first) refl (λ e. inl refl, tt),
+  apart mine (asStop first) refl (λ e. inl refl, tt),
   (
-    apart (asStop second) refl (λ e. inl refl, tt),
-    (apart (asStop third) refl (other refl, (λ e. inl refl, (tt, (other refl, (λ e. inr refl, tt))))), tt),
+    apart mine (asStop second) refl (λ e. inl refl, tt),
+    (apart mine (asStop third) refl (other refl, (λ e. inl refl, (tt, (other refl, (λ e. inr refl, tt))))), tt),
   ),
 )
 
 -- the sum, and its numbers: 98,304,000 + 61,034 = 0 + 0 + (98,304,000 + 15,258 + 45,776)
-sum : padOf (aSync true 98304000) +ℤ padOf (aFollowUp 61034) ≡ padOf (aSync false 0) +ℤ pos 0 +ℤ pos (total units (syncStamps path))
+sum : padOf (aSync true 98304000) +ℤ padOf (aFollowUp 61034) ≡ padOf (aSync false 0) +ℤ pos 0 +ℤ pos (total units (firstStamps path))
 sum = stamped-path-sum mine false (aSync false 0) (aSync true 98304000) path (pos 0) (padOf (aFollowUp 61034)) refl all-apart sync-way follow-ups
 
-residences : total units (syncStamps path) ≡ 98304000 + 15258 + 45776
+residences : total units (firstStamps path) ≡ 98304000 + 15258 + 45776
 residences = refl
 
 in-numbers : pos 98304000 +ℤ pos 61034 ≡ pos 0 +ℤ pos 0 +ℤ pos 98365034
@@ -119,9 +119,9 @@ in-numbers = sum
 
 -- the rounding, and its numbers: 75,776 below, which is more than 65,536 and less than twice that
 rounded :
-    (total units (syncStamps path) * 65536 ≤ total exact (syncStamps path))
-    × (total exact (syncStamps path) < (total units (syncStamps path) + 2) * 65536)
-rounded = path-rounded-down mine false (aSync false 0) (aSync true 98304000) path 2 refl sync-way refl (omega arith)
+    (total units (firstStamps path) * 65536 ≤ total exact (firstStamps path))
+    × (total exact (firstStamps path) < (total units (firstStamps path) + 2) * 65536)
+rounded = path-rounded-down mine (sync mine false) (aSync false 0) (aSync true 98304000) path 2 (of-sync false) refl sync-way refl (omega arith)
 
-exactly : total exact (syncStamps path) ≡ total units (syncStamps path) * 65536 + 75776
+exactly : total exact (firstStamps path) ≡ total units (firstStamps path) * 65536 + 75776
 exactly = refl

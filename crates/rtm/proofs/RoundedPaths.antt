@@ -1,9 +1,9 @@
--- The residences of a path are less than a unit for each NTP node below the exact ones: every call on the Sync had its residence accepted,
--- and each of those is rounded down once.
+-- The residences of a path are less than a unit for each NTP node below the exact ones: every call on the first message had its residence
+-- accepted, and each of those is rounded down once.
 -- Assumes nothing.
 use Prim.Native.Nat.{ℕ, zero, suc, _+_, _*_, _≤_}
 use mathlib.Core.Path.{_≡_, refl, sym, ap, _∙_}
-use mathlib.Core.Bool.{Bool, true, false}
+use mathlib.Core.Bool.{true, false}
 use mathlib.Core.List.{List, [], _∷_, map}
 use mathlib.Core.Option.{some}
 use native.Mathlib.Omega.{arith}
@@ -15,13 +15,14 @@ use Rattle.stamp.specs.declared.stamps.Stamps.the-variants.{Ptp, Ntp}
 use Rattle.stamp.specs.Stamps.{residenceOf}
 use Rattle.stamp.specs.Rounding.{exact}
 use Rattle.stamp.proofs.Given.{not-rounded, rounded-down}
+use Rattle.records.specs.declared.RecordKind.the-variants.{Sync, Delay}
 use Rattle.records.specs.declared.Identity.{Identity}
 use Rattle.records.specs.Node.{Event, tick, call, switchover}
-use Rattle.rules.specs.Rules.{sync, kindOf, Mode, oneStep, twoStep, Call, Reply, update, create, keep, rules}
-use Rattle.rules.specs.Path.{Stop, Visit, SyncWay, unitsOf}
+use Rattle.rules.specs.Rules.{Kind, sync, delayReq, kindOf, Mode, oneStep, twoStep, Call, Reply, update, create, keep, rules}
+use Rattle.rules.specs.Path.{Stop, Visit, First, of-sync, of-delay, FirstWay, unitsOf}
 use Rattle.rules.proofs.Calls.{Unrefused, reply-is}
-use Rattle.rules.proofs.Crossing.{asked, fine, of-kind, sync-at-one, sync-at-two, sync-creates}
-use Rattle.rtm.specs.Stamped.{StampedCall, handed, handedEvent, StampedStop, asStop, stampsIn, syncStamps, total, units}
+use Rattle.rules.proofs.Crossing.{asked, fine, of-kind, first-at-one, first-at-two, sync-creates}
+use Rattle.rtm.specs.Stamped.{StampedCall, handed, handedEvent, StampedStop, asStop, stampsIn, firstStamps, total, units}
 use Rattle.rtm.specs.Rounding.{ntpNode, PathRoundedDown}
 use Rattle.rtm.proofs.Runs.{accepted-is}
 
@@ -41,7 +42,7 @@ within-more (Ntp entry exit) u ss e h =
     let g = rounded-down entry exit u e in
     (omega (arith, f, g .0, h .0), omega (arith, f, g .1, h .1))
 
--- a call on a Sync that is not refused has its residence accepted
+-- a call on a first message that is not refused has its residence accepted
 module _ (c : Call) (table : Answer ℕ) (q : Identity) (fine : Unrefused (rules .reply c table)) where
   abbrev Accepted : Type 0
   Accepted = (u : ℕ) × (acceptedOf (c .residence) ≡ value u)
@@ -49,14 +50,18 @@ module _ (c : Call) (table : Answer ℕ) (q : Identity) (fine : Unrefused (rules
   not-so : (n : ℕ) {r : Reply} → rules .reply c table ≡ r → r .answer ≡ refused n → Accepted
   not-so n e f = absurd (fine n (ap (λ (r : Reply). r .answer) e ∙ f))
 
-  by-case : (o : Mode) → c .mode ≡ o → (b : Bool) → kindOf (c .message) ≡ sync q b → (a : Answer ℕ) → acceptedOf (c .residence) ≡ a → Accepted
-  by-case o m b k (value u) p = (u, p)
-  by-case oneStep m b k (refused n) p = not-so n (reply-is c table oneStep (sync q b) m k) (ap (λ (a : Answer ℕ). update c a .answer) p)
-  by-case twoStep m true k (refused n) p = not-so n (reply-is c table twoStep (sync q true) m k) (ap (λ (a : Answer ℕ). keep c a table .answer) p)
-  by-case twoStep m false k (refused n) p = not-so n (reply-is c table twoStep (sync q false) m k) (ap (λ (a : Answer ℕ). create c a .answer) p)
+  by-case :
+      (o : Mode) → c .mode ≡ o → {k : Kind} → First q k → kindOf (c .message) ≡ k
+      → (a : Answer ℕ) → acceptedOf (c .residence) ≡ a → Accepted
+  by-case o m f k (value u) p = (u, p)
+  by-case oneStep m (of-sync b) k (refused n) p = not-so n (reply-is c table oneStep (sync q b) m k) (ap (λ (a : Answer ℕ). update c a .answer) p)
+  by-case oneStep m of-delay k (refused n) p = not-so n (reply-is c table oneStep (delayReq q) m k) (ap (λ (a : Answer ℕ). update c a .answer) p)
+  by-case twoStep m (of-sync true) k (refused n) p = not-so n (reply-is c table twoStep (sync q true) m k) (ap (λ (a : Answer ℕ). keep c a table .answer) p)
+  by-case twoStep m (of-sync false) k (refused n) p = not-so n (reply-is c table twoStep (sync q false) m k) (ap (λ (a : Answer ℕ). create c a .answer) p)
+  by-case twoStep m of-delay k (refused n) p = not-so n (reply-is c table twoStep (delayReq q) m k) (ap (λ (a : Answer ℕ). keep c a table .answer) p)
 
-  accepts : (b : Bool) → kindOf (c .message) ≡ sync q b → Accepted
-  accepts b e = by-case (c .mode) refl b e (acceptedOf (c .residence)) refl
+  accepts : {k : Kind} → First q k → kindOf (c .message) ≡ k → Accepted
+  accepts f e = by-case (c .mode) refl f e (acceptedOf (c .residence)) refl
 
 -- the call with stamps that a call with a residence comes from
 unhanded :
@@ -73,38 +78,46 @@ unhanded (call c ∷ es) zero d e = (c, refl, out e)
 unhanded (e ∷ es) (suc k) d p = unhanded es k d p
 
 module _ (q : Identity) where
-  -- a Sync leaves a node as a Sync
-  remains-sync :
-      (n : Stop) (s : List ℕ) (r : Reply) (b : Bool)
-      → Visit n (n .syncPlace) s r
-      → kindOf s ≡ sync q b
-      → (x : Bool) × (kindOf (r .message) ≡ sync q x)
-  remains-sync n s r b v e = go (n .mode) refl b e
+  -- a Sync leaves a node as a Sync, a Delay_Req as a Delay_Req
+  remains-first :
+      (n : Stop) (s : List ℕ) (r : Reply) {k : Kind}
+      → Visit n (n .firstPlace) s r
+      → First q k
+      → kindOf s ≡ k
+      → (x : Kind) × First q x × (kindOf (r .message) ≡ x)
+  remains-first n s r {k} v f e = go (n .mode) refl f e
     where
-      go : (o : Mode) → n .mode ≡ o → (b : Bool) → kindOf s ≡ sync q b → (x : Bool) × (kindOf (r .message) ≡ sync q x)
-      go oneStep o b k = (b, sync-at-one q n s r v b o k .0 .kind)
-      go twoStep o true k = (true, ap kindOf (sync-at-two q n s r v o k .0) ∙ k)
-      go twoStep o false k = (true, sync-creates q n s r v o k .0)
+      go : (o : Mode) → n .mode ≡ o → {k : Kind} → First q k → kindOf s ≡ k → (x : Kind) × First q x × (kindOf (r .message) ≡ x)
+      go oneStep o {k} f e = (k, f, first-at-one q n s r v k f o e .0 .kind)
+      go twoStep o (of-sync true) e = (sync q true, of-sync true, ap kindOf (first-at-two q n s r v Sync o e .0) ∙ e)
+      go twoStep o (of-sync false) e = (sync q true, of-sync true, sync-creates q n s r v o e .0)
+      go twoStep o of-delay e = (delayReq q, of-delay, ap kindOf (first-at-two q n s r v Delay o e .0) ∙ e)
 
   -- the stamps of its call there give a residence
   measured :
-      (n : StampedStop) (s : List ℕ) (r : Reply) (b : Bool)
-      → Visit (asStop n) (n .syncPlace) s r
-      → kindOf s ≡ sync q b
-      → (x : Stamps) × (u : ℕ) × (stampsIn (getElem? (n .events) (n .syncPlace)) ≡ x ∷ []) × (residenceOf x ≡ value u)
-  measured n s r b v e =
+      (n : StampedStop) (s : List ℕ) (r : Reply) {k : Kind}
+      → Visit (asStop n) (n .firstPlace) s r
+      → First q k
+      → kindOf s ≡ k
+      → (x : Stamps) × (u : ℕ) × (stampsIn (getElem? (n .events) (n .firstPlace)) ≡ x ∷ []) × (residenceOf x ≡ value u)
+  measured n s r {k} v f e =
       let m = asStop n in
-      let i = n .syncPlace in
-      let f = unhanded (n .events) i (v .handed) (v .here) in
-      let g = accepts (v .handed) (asked m i s r v) q (fine m i s r v) b (of-kind m i s r v (sync q b) e) in
-      (f .0 .stamps, g .0, ap stampsIn (f .1), sym (accepted-is (f .0 .stamps)) ∙ ap (λ (c : Call). acceptedOf (c .residence)) (f .2) ∙ g .1)
+      let i = n .firstPlace in
+      let g = unhanded (n .events) i (v .handed) (v .here) in
+      let h = accepts (v .handed) (asked m i s r v) q (fine m i s r v) f (of-kind m i s r v k e) in
+      (g .0 .stamps, h .0, ap stampsIn (g .1), sym (accepted-is (g .0 .stamps)) ∙ ap (λ (c : Call). acceptedOf (c .residence)) (g .2) ∙ h .1)
 
-  all-within : {s last : List ℕ} (b : Bool) (path : List StampedStop) → kindOf s ≡ sync q b → SyncWay s (map asStop path) last → Within (syncStamps path)
-  all-within b [] e w = (omega arith, omega arith)
-  all-within b (n ∷ ns) e (SyncWay.cross {s = s} {r = r} v w) =
-      let x = measured n s r b v e in
-      let k = remains-sync (asStop n) s r b v e in
-      rw (x .2) (within-more (x .0) (x .1) (syncStamps ns) (x .3) (all-within (k .0) ns (k .1) w))
+  all-within :
+      {s last : List ℕ} {k : Kind} (path : List StampedStop)
+      → First q k
+      → kindOf s ≡ k
+      → FirstWay s (map asStop path) last
+      → Within (firstStamps path)
+  all-within [] f e w = (omega arith, omega arith)
+  all-within (n ∷ ns) f e (FirstWay.cross {s = s} {r = r} v w) =
+      let x = measured n s r v f e in
+      let y = remains-first (asStop n) s r v f e in
+      rw (x .2) (within-more (x .0) (x .1) (firstStamps ns) (x .3) (all-within ns (y .1) (y .2) w))
 
 pub path-rounded-down : PathRoundedDown
-path-rounded-down q b start last path n e w f h = let x = all-within q b path e w in (x .0, omega (arith, x .1, f, h))
+path-rounded-down q k start last path n f e w t h = let x = all-within q path f e w in (x .0, omega (arith, x .1, t, h))

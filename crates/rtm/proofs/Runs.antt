@@ -2,7 +2,7 @@
 -- Assumes nothing.
 use Prim.Native.Nat.{ℕ, zero, suc, _+_}
 use mathlib.Core.Path.{_≡_, refl, ap, _∙_}
-use mathlib.Core.List.{List, [], _∷_, _++_, map}
+use mathlib.Core.List.{List, [], _∷_, _++_, map, List·Permᴰ, List·Permᴰ·nil, List·Permᴰ·cons, List·Permᴰ·swap, List·Permᴰ·trans}
 use mathlib.Core.Logic.{_⊎_, inl, inr}
 use native.Mathlib.Omega.{arith}
 use lib.IntN.{ℤ, pos, _+ℤ_}
@@ -21,9 +21,9 @@ use Rattle.rules.specs.Change.{padOf}
 use Rattle.rules.specs.Rules.{Reply, rules}
 use Rattle.rules.specs.Path.{unitsOf, unitsIn, residences}
 use Rattle.rules.proofs.Laws.{lawful}
-use Rattle.rules.proofs.PathSums.{path-sum}
+use Rattle.rules.proofs.PathSums.{path-sum, delay-path-sum}
 use Rattle.rtm.specs.Stamped.{residenceBy, stampedResidence, StampedCall, handed, handedEvent, stamped, SameRun, StampedOrderDoesNotMatter}
-use Rattle.rtm.specs.Stamped.{StampedStop, asStop, stampsIn, syncStamps, total, units, StampedPathSum}
+use Rattle.rtm.specs.Stamped.{StampedStop, asStop, stampsIn, firstStamps, total, units, StampedPathSum, StampedDelayPathSum}
 
 -- a residence is the one of its answer
 by-answer : (r : Residence) → r ≡ residenceBy (residenceAnswer r)
@@ -70,7 +70,7 @@ stamped-lawful = record { own = λ c. lawful .own (handed c); want = λ c. lawfu
 pub stamped-order-does-not-matter : StampedOrderDoesNotMatter
 stamped-order-does-not-matter = order-free stamped stamped-lawful
 
--- the residences of a path are those of the Sync's stamps
+-- the residences of a path are those of the first message's stamps
 total-append : (f : Stamps → ℕ) (ss rs : List Stamps) → total f (ss ++ rs) ≡ total f ss + total f rs
 total-append f [] rs = omega arith
 total-append f (s ∷ ss) rs = omega (arith, total-append f ss rs)
@@ -82,11 +82,23 @@ at-place (switchover ∷ es) zero = refl
 at-place (call c ∷ es) zero = omega (arith, ap unitsOf (accepted-is (c .stamps)))
 at-place (e ∷ es) (suc k) = at-place es k
 
-along : (path : List StampedStop) → residences (map asStop path) ≡ total units (syncStamps path)
+along : (path : List StampedStop) → residences (map asStop path) ≡ total units (firstStamps path)
 along [] = refl
 along (n ∷ ns) =
-    omega (arith, at-place (n .events) (n .syncPlace), along ns, total-append units (stampsIn (getElem? (n .events) (n .syncPlace))) (syncStamps ns))
+    omega (arith, at-place (n .events) (n .firstPlace), along ns, total-append units (stampsIn (getElem? (n .events) (n .firstPlace))) (firstStamps ns))
 
 pub stamped-path-sum : StampedPathSum
 stamped-path-sum q s start last path first second e h w f =
     path-sum q s start last (map asStop path) first second e h w f ∙ ap (λ (n : ℕ). padOf start +ℤ first +ℤ pos n) (along path)
+
+-- nodes in another order
+stops-order : {fs ns : List StampedStop} → List·Permᴰ fs ns → List·Permᴰ (map asStop fs) (map asStop ns)
+stops-order List·Permᴰ·nil = List·Permᴰ·nil
+stops-order (List·Permᴰ·cons e p) = List·Permᴰ·cons (ap asStop e) (stops-order p)
+stops-order (List·Permᴰ·swap e₁ e₂) = List·Permᴰ·swap (ap asStop e₁) (ap asStop e₂)
+stops-order (List·Permᴰ·trans p q) = List·Permᴰ·trans (stops-order p) (stops-order q)
+
+pub stamped-delay-path-sum : StampedDelayPathSum
+stamped-delay-path-sum q request last response end path back e f h w p v =
+    delay-path-sum q request last response end (map asStop path) (map asStop back) e f h w (stops-order p) v
+    ∙ ap (λ (n : ℕ). padOf request +ℤ padOf response +ℤ pos n) (along path)

@@ -3,7 +3,7 @@
 use Prim.Native.Nat.{ℕ, _+_}
 use mathlib.Core.Path.{_≡_}
 use mathlib.Core.Bool.{Bool, cond}
-use mathlib.Core.List.{List, [], _∷_, _++_, map}
+use mathlib.Core.List.{List, [], _∷_, _++_, map, List·Permᴰ}
 use mathlib.Core.Option.{Option, none, some}
 use lib.Dec.{eqb}
 use lib.IntN.{ℤ, pos, _+ℤ_}
@@ -18,8 +18,8 @@ use Rattle.records.specs.Slots.{Slots}
 use Rattle.records.specs.Node.{Node, Event, tick, call, switchover, run, final}
 use Rattle.records.specs.Order.{OrderFree}
 use Rattle.rules.specs.Change.{padOf}
-use Rattle.rules.specs.Rules.{Mode, Call, Reply, Word, sync, kindOf, rules}
-use Rattle.rules.specs.Path.{Stop, Apart, Every, SyncWay, FollowUps, unitsOf}
+use Rattle.rules.specs.Rules.{Mode, Call, Reply, Word, sync, delayReq, delayResp, kindOf, rules}
+use Rattle.rules.specs.Path.{Stop, Apart, Every, FirstWay, SecondWay, FollowUps, unitsOf}
 
 -- the residence whose answer is given: 9 an invalid stamp, 10 too long
 abbrev pub residenceBy : Answer ℕ → Residence
@@ -80,8 +80,8 @@ pub record StampedStop : Type 0 where
   pub mode : Mode
   pub table : Slots
   pub events : List (Event StampedCall)
-  pub syncPlace : ℕ
-  pub followUpPlace : Option ℕ
+  pub firstPlace : ℕ
+  pub secondPlace : Option ℕ
 
 abbrev pub asStop : StampedStop → Stop
 asStop n =
@@ -89,35 +89,47 @@ asStop n =
       mode = n .mode;
       table = n .table;
       events = map handedEvent (n .events);
-      syncPlace = n .syncPlace;
-      followUpPlace = n .followUpPlace;
+      firstPlace = n .firstPlace;
+      secondPlace = n .secondPlace;
     }
 
--- the stamps of the Sync's calls along a path
+-- the stamps of the first message's calls along a path
 abbrev pub stampsIn : Option (Event StampedCall) → List Stamps
 stampsIn none = []
 stampsIn (some tick) = []
 stampsIn (some switchover) = []
 stampsIn (some (call c)) = c .stamps ∷ []
 
-abbrev pub syncStamps : List StampedStop → List Stamps
-syncStamps [] = []
-syncStamps (n ∷ ns) = stampsIn (getElem? (n .events) (n .syncPlace)) ++ syncStamps ns
+abbrev pub firstStamps : List StampedStop → List Stamps
+firstStamps [] = []
+firstStamps (n ∷ ns) = stampsIn (getElem? (n .events) (n .firstPlace)) ++ firstStamps ns
 
 abbrev pub total : (Stamps → ℕ) → List Stamps → ℕ
 total f [] = 0
 total f (s ∷ ss) = f s + total f ss
 
--- "the stays those of the Sync's calls in pad units": "Demand 3's stays are the rounded ones"
+-- "the stays those of the Sync's calls in pad units", or of the Delay_Req's: "Demand 3's stays are the rounded ones"
 abbrev pub units : Stamps → ℕ
 units s = unitsOf (residenceOf s)
 
--- the sum of the pads over a path, for calls with stamps
+-- the sum of the pads over a path, for calls with stamps: of a Sync and its Follow_Up
 abbrev pub StampedPathSum : Type 0
 StampedPathSum =
     (q : Identity) (s : Bool) (start last : List ℕ) (path : List StampedStop) (first second : ℤ)
     → kindOf start ≡ sync q s
     → Every (Apart q) (map asStop path)
-    → SyncWay start (map asStop path) last
+    → FirstWay start (map asStop path) last
     → FollowUps q s (map asStop path) first second
-    → padOf last +ℤ second ≡ padOf start +ℤ first +ℤ pos (total units (syncStamps path))
+    → padOf last +ℤ second ≡ padOf start +ℤ first +ℤ pos (total units (firstStamps path))
+
+-- and of a Delay_Req and its Delay_Resp
+abbrev pub StampedDelayPathSum : Type 0
+StampedDelayPathSum =
+    (q : Identity) (request last response end : List ℕ) (path back : List StampedStop)
+    → kindOf request ≡ delayReq q
+    → kindOf response ≡ delayResp q
+    → Every (Apart q) (map asStop path)
+    → FirstWay request (map asStop path) last
+    → List·Permᴰ back path
+    → SecondWay response (map asStop back) end
+    → padOf last +ℤ padOf end ≡ padOf request +ℤ padOf response +ℤ pos (total units (firstStamps path))

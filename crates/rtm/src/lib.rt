@@ -9,6 +9,7 @@ ghost use mathlib.Core.Path.{_≡_};
 ghost use Prim.Native.Nat.{ℕ};
 ghost use mathlib.Core.List.{List};
 ghost use Rattle.records.specs.Slots.{Slots};
+ghost use Rattle.table.specs.Table.{slotsOf};
 ghost use Rattle.rules.specs.Rules.{oneStep, twoStep, callOf};
 ghost use Rattle.node.specs.Answers.{doneAlone, done};
 ghost use Rattle.rtm.specs.Stamped.{handedCall};
@@ -27,7 +28,7 @@ pub fn one_step(message: &mut [u8], stamps: Stamps) -> Answer
 pub fn two_step(table: Table, message: &mut [u8], output: &mut [u8], stamps: Stamps) -> Done
     ensures { λ r. ⌜
         done r (now (message .exit)) (now (output .exit))
-        ≡ callOf (table .slots) (handedCall twoStep (now (message .entry)) (now (output .entry)) stamps)
+        ≡ callOf (slotsOf table) (handedCall twoStep (now (message .entry)) (now (output .entry)) stamps)
         ⌝ }
 {
     node::handle_two_step(table, message, output, stamp::residence_of(stamps))

@@ -14,15 +14,15 @@ use Rattle.refusal.specs.Answer.{Answer, value, refused}
 use Rattle.residence.specs.declared.Residence.the-variants.{InvalidStamp}
 use Rattle.records.specs.Slots.{Slots, same, holds, zeros, find}
 use Rattle.records.specs.Node.{Event, tick, call, switchover, replied, run, final}
-use Rattle.image.specs.Image.{sound, differ}
+use Rattle.image.specs.Image.{sound, ofSync, differ}
 use Rattle.rules.specs.Change.{padOf}
 use Rattle.rules.specs.Rules.{oneStep, twoStep, Call, Word, Reply, asItCame, updated, passed, created, waiting, added, rules}
-use Rattle.rules.specs.Path.{Stop, ReplyAt, Apart, Every, SyncWay, FollowUpWay, FollowUps, existing, never, residences}
+use Rattle.rules.specs.Path.{Stop, ReplyAt, Apart, Every, FirstWay, SecondWay, FollowUps, existing, never, residences}
 use Rattle.rules.specs.Demand3.{Waiting}
 use Rattle.rules.proofs.Laws.{gone-at-third-tick}
 use Rattle.rules.proofs.PathSums.{path-sum}
-use Rattle.rules.proofs.Samples.{octetsOf, stayed, spare, handedIn, recordOf, after, visit, waits}
-use Rattle.rules.proofs.PathExample.{mine, theirs, aSync, apart, other}
+use Rattle.rules.proofs.Samples.{octetsOf, stayed, spare, handedIn, recordOf, after, visit, waits, other, apart}
+use Rattle.rules.proofs.PathExample.{mine, theirs, aSync}
 
 abbrev new : Slots
 new = replicate 16 zeros
@@ -55,7 +55,7 @@ followUpSecond = handedIn twoStep (itsFollowUp 3276811) (stayed 9)
 
 -- a record of another identity waits at the second node, and its Sync is refused there
 abbrev first : Stop
-first = record { mode = oneStep; table = new; events = call syncFirst ∷ tick ∷ call followUpFirst ∷ []; syncPlace = 0; followUpPlace = some 2 }
+first = record { mode = oneStep; table = new; events = call syncFirst ∷ tick ∷ call followUpFirst ∷ []; firstPlace = 0; secondPlace = some 2 }
 
 abbrev second : Stop
 second =
@@ -69,29 +69,29 @@ second =
           ∷ switchover
           ∷ call followUpSecond
           ∷ [];
-      syncPlace = 1;
-      followUpPlace = some 4;
+      firstPlace = 1;
+      secondPlace = some 4;
     }
 
 abbrev third : Stop
-third = record { mode = twoStep; table = new; events = call syncThird ∷ tick ∷ tick ∷ call followUpThird ∷ []; syncPlace = 0; followUpPlace = some 3 }
+third = record { mode = twoStep; table = new; events = call syncThird ∷ tick ∷ tick ∷ call followUpThird ∷ []; firstPlace = 0; secondPlace = some 3 }
 
 abbrev path : List Stop
 path = first ∷ second ∷ third ∷ []
 
-sync-way : SyncWay (setSync (negsuc 4)) path (setSync (pos 98303995))
-unfolding same holds sound differ
+sync-way : FirstWay (setSync (negsuc 4)) path (setSync (pos 98303995))
+unfolding same holds sound ofSync differ
 sync-way =
-    SyncWay.cross (visit first 0 syncFirst updated (setSync (pos 98303995)) spare refl refl refl)
-    (SyncWay.cross (visit second 1 syncSecond waiting (setSync (pos 98303995)) spare refl refl refl)
-    (SyncWay.cross (visit third 0 syncThird waiting (setSync (pos 98303995)) spare refl refl refl) SyncWay.done))
+    FirstWay.cross (visit first 0 syncFirst updated (setSync (pos 98303995)) spare refl refl refl)
+    (FirstWay.cross (visit second 1 syncSecond waiting (setSync (pos 98303995)) spare refl refl refl)
+    (FirstWay.cross (visit third 0 syncThird waiting (setSync (pos 98303995)) spare refl refl refl) FirstWay.done))
 
-follow-up-way : FollowUpWay (itsFollowUp 11) (third ∷ first ∷ second ∷ []) (itsFollowUp 16384011)
-unfolding same holds sound differ
+follow-up-way : SecondWay (itsFollowUp 11) (third ∷ first ∷ second ∷ []) (itsFollowUp 16384011)
+unfolding same holds sound ofSync differ
 follow-up-way =
-    FollowUpWay.cross 3 refl (visit third 3 followUpThird added (itsFollowUp 3276811) spare refl refl refl)
-    (FollowUpWay.cross 2 refl (visit first 2 followUpFirst passed (itsFollowUp 3276811) spare refl refl refl)
-    (FollowUpWay.cross 4 refl (visit second 4 followUpSecond added (itsFollowUp 16384011) spare refl refl refl) FollowUpWay.done))
+    SecondWay.cross 3 refl (visit third 3 followUpThird added (itsFollowUp 3276811) spare refl refl refl)
+    (SecondWay.cross 2 refl (visit first 2 followUpFirst passed (itsFollowUp 3276811) spare refl refl refl)
+    (SecondWay.cross 4 refl (visit second 4 followUpSecond added (itsFollowUp 16384011) spare refl refl refl) SecondWay.done))
 
 another-order : List·Permᴰ (third ∷ first ∷ second ∷ []) path
 another-order =
@@ -99,12 +99,12 @@ another-order =
     (List·Permᴰ·cons {a = first} {b = first} refl (List·Permᴰ·swap {a = third} {b = second} {a′ = second} {b′ = third} refl refl))
 
 all-apart : Every (Apart mine) path
-unfolding same holds sound differ
+unfolding same holds sound ofSync differ
 all-apart = (
-  apart first refl (λ e. inl refl, (tt, (λ e. inr refl, tt))),
+  apart mine first refl (λ e. inl refl, (tt, (λ e. inr refl, tt))),
   (
-    apart second refl (other refl, (λ e. inl refl, (tt, (tt, (λ e. inr refl, tt))))),
-    (apart third refl (λ e. inl refl, (tt, (tt, (λ e. inr refl, tt)))), tt),
+    apart mine second refl (other refl, (λ e. inl refl, (tt, (tt, (λ e. inr refl, tt))))),
+    (apart mine third refl (λ e. inl refl, (tt, (tt, (λ e. inr refl, tt)))), tt),
   ),
 )
 
@@ -125,7 +125,7 @@ abbrev updatedSecond : Call
 updatedSecond = handedIn oneStep (aSync false 98304007) (stayed 200)
 
 abbrev alone : Call → Stop
-alone c = record { mode = oneStep; table = new; events = tick ∷ call c ∷ []; syncPlace = 1; followUpPlace = none }
+alone c = record { mode = oneStep; table = new; events = tick ∷ call c ∷ []; firstPlace = 1; secondPlace = none }
 
 abbrev oneStepPath : List Stop
 oneStepPath = alone updatedFirst ∷ alone updatedSecond ∷ []
@@ -138,11 +138,11 @@ isUpdated (value waiting) = 0
 isUpdated (value added) = 0
 isUpdated (refused n) = 0
 
-one-step-way : SyncWay (aSync false 7) oneStepPath (aSync false 111411207)
-unfolding same holds sound differ
+one-step-way : FirstWay (aSync false 7) oneStepPath (aSync false 111411207)
+unfolding same holds sound ofSync differ
 one-step-way =
-    SyncWay.cross (visit (alone updatedFirst) 1 updatedFirst updated (aSync false 98304007) spare refl refl refl)
-    (SyncWay.cross (visit (alone updatedSecond) 1 updatedSecond updated (aSync false 111411207) spare refl refl refl) SyncWay.done)
+    FirstWay.cross (visit (alone updatedFirst) 1 updatedFirst updated (aSync false 98304007) spare refl refl refl)
+    (FirstWay.cross (visit (alone updatedSecond) 1 updatedSecond updated (aSync false 111411207) spare refl refl refl) FirstWay.done)
 
 -- what was answered "updated" was not answered "created"
 not-created : (c : Call) (m : List ℕ) → ReplyAt (alone c) 1 (after updated m spare) → (r : Reply) → ReplyAt (alone c) 1 r → r .answer ≡ value created → ⊥
@@ -155,12 +155,12 @@ not-created c m is r e q =
     out p = cc
 
 none-created : FollowUps mine false oneStepPath (pos 0) (pos 0)
-unfolding same holds sound differ
+unfolding same holds sound ofSync differ
 none-created = never {ns = oneStepPath} (not-created updatedFirst (aSync false 98304007) refl, (not-created updatedSecond (aSync false 111411207) refl, tt))
 
 one-step-apart : Every (Apart mine) oneStepPath
-unfolding same holds sound differ
-one-step-apart = (apart (alone updatedFirst) refl (tt, (λ e. inl refl, tt)), (apart (alone updatedSecond) refl (tt, (λ e. inl refl, tt)), tt))
+unfolding same holds sound ofSync differ
+one-step-apart = (apart mine (alone updatedFirst) refl (tt, (λ e. inl refl, tt)), (apart mine (alone updatedSecond) refl (tt, (λ e. inl refl, tt)), tt))
 
 -- 111,411,207 + 0 = 7 + 0 + 111,411,200
 one-step-sum : padOf (aSync false 111411207) +ℤ pos 0 ≡ padOf (aSync false 7) +ℤ pos 0 +ℤ pos (residences oneStepPath)
@@ -182,13 +182,13 @@ tooLate =
     ∷ []
 
 abbrev late : Stop
-late = record { mode = twoStep; table = new; events = tooLate; syncPlace = 0; followUpPlace = some 6 }
+late = record { mode = twoStep; table = new; events = tooLate; firstPlace = 0; secondPlace = some 6 }
 
 waiting-late : Waiting new tooLate mine (50 * 65536) 0 6 followUpThird
-unfolding same holds sound differ
+unfolding same holds sound ofSync differ
 waiting-late =
     waits mine late (50 * 65536) 0 6 syncThird followUpThird
-    (apart late refl (λ e. inl refl, (tt, (tt, (tt, (other refl, (tt, (λ e. inr refl, tt))))))))
+    (apart mine late refl (λ e. inl refl, (tt, (tt, (tt, (other refl, (tt, (λ e. inr refl, tt))))))))
     refl refl (omega arith) (refl, refl, refl, refl) refl (refl, refl, refl)
 
 gone : (find mine (final rules new (take 6 tooLate)) ≡ none) × (getElem? (run rules new tooLate) 6 ≡ some (replied (asItCame followUpThird (refused 15))))

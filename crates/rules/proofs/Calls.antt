@@ -1,33 +1,38 @@
--- What comes of a call on a Sync or a Follow_Up that is not refused, in each mode.
+-- What comes of a call on the first or the second message of a pair that is not refused, in each mode.
 -- Assumes nothing.
 use Prim.Native.Nat.{ℕ, _<_, _^_}
 use mathlib.Core.Path.{_≡_, refl, sym, ap, _∙_}
 use mathlib.Core.Bool.{Bool, true, false, not}
 use mathlib.Core.List.{_++_}
 use native.Mathlib.Omega.{arith}
+use mathlib.Core.Option.{some}
 use lib.Dec.{ltb}
 use lib.IntN.{ℤ, pos, _+ℤ_}
 use lib.ListN.{length, take, drop}
 use lib.Seq.{take-at}
 use Rattle.refusal.specs.Answer.{Answer, value, refused, refuse}
+use Rattle.residence.specs.declared.Residence.{Residence}
 use Rattle.residence.specs.Residence.{acceptedOf}
 use Rattle.residence.proofs.Limit.{below-limit}
+use Rattle.message.proofs.Sound.{SoundPtp}
+use Rattle.records.specs.declared.RecordKind.{RecordKind}
+use Rattle.records.specs.declared.RecordKind.the-variants.{Sync, Delay}
 use Rattle.records.specs.declared.Identity.{Identity}
-use Rattle.records.specs.Node.{add}
+use Rattle.records.specs.Node.{Request, add, collect}
 use Rattle.scratch_pad.specs.Sum.{inRange}
 use Rattle.rules.specs.Change.{padOf, withTwoStep, followUpOf}
-use Rattle.rules.specs.Rules.{Kind, sync, followUp, kindOf, Mode, oneStep, twoStep, Call, Word, updated, created, waiting, added, Reply, summed, addToPad, update, createIn, create, keep, gather, replyBy, requestBy, rules}
-use Rattle.rules.specs.Path.{unitsOf}
-use Rattle.rules.proofs.Bearing.{Bears, sync-kind, follow-up-kind, is-sync, is-follow-up}
-use Rattle.rules.proofs.Changes.{with-pad-pad, with-pad-bears, with-two-step-bears, with-two-step-pad, follow-up-length, follow-up-pad, follow-up-bears}
+use Rattle.rules.specs.Rules.{Kind, sync, followUp, delayReq, firstOf, secondOf, kindOf, kindIdentity, Mode, oneStep, twoStep, Call, Word, updated, created, waiting, added, Reply, summed, addToPad, asItCame, update, oneStepReply, createIn, create, keep, gather, twoStepReply, replyBy, keepRequest, twoStepRequest, requestBy, passed, rules}
+use Rattle.rules.specs.Path.{First, of-sync, of-delay, unitsOf}
+use Rattle.rules.proofs.Bearing.{Bears, sync-kind, follow-up-kind, sound-ptp, is-sync}
+use Rattle.rules.proofs.Changes.{with-pad-pad, with-pad-kind, with-two-step-bears, with-two-step-pad, follow-up-length, follow-up-pad, follow-up-bears}
 
 abbrev pub Unrefused : Reply → Type 0
 Unrefused r = (n : ℕ) → r .answer ≡ refused n → ⊥
 
--- a pad that was added to, of a message that stays of its PTPType, S and identity
-module _ (c : Call) (w : Word) (u k : ℕ) (b : Bool) (q : Identity) (m : Bears (c .message) k b q) where
+-- a pad that was added to, of a message that stays of its kind
+module _ (c : Call) (w : Word) (u : ℕ) (m : SoundPtp (c .message)) where
   pub record Raised (r : Reply) : Type 0 where
-    pub bears : Bears (r .message) k b q
+    pub kind : kindOf (r .message) ≡ kindOf (c .message)
     pub pad : padOf (r .message) ≡ padOf (c .message) +ℤ pos u
     pub answer : r .answer ≡ value w
     pub fits : inRange (padOf (c .message) +ℤ pos u) ≡ true
@@ -39,7 +44,7 @@ module _ (c : Call) (w : Word) (u k : ℕ) (b : Bool) (q : Identity) (m : Bears 
       z = padOf (c .message) +ℤ pos u
 
       go : (t : Bool) → inRange z ≡ t → Unrefused (summed c w (refuse 11 (not t) (value z))) → Raised (summed c w (refuse 11 (not t) (value z)))
-      go true e h = record { bears = with-pad-bears (c .message) k b q m z e; pad = with-pad-pad (c .message) k b q m z e; answer = refl; fits = e }
+      go true e h = record { kind = with-pad-kind (c .message) m z e; pad = with-pad-pad (c .message) m z e; answer = refl; fits = e }
       go false e h = absurd (h 11 refl)
 
 -- the reply and the request of a call whose mode and kind are known
@@ -49,27 +54,68 @@ reply-is c table m k o e = ap (λ (x : Mode). replyBy x c table (kindOf (c .mess
 pub request-is : (c : Call) (m : Mode) (k : Kind) → c .mode ≡ m → kindOf (c .message) ≡ k → rules .request c ≡ requestBy m (c .residence) k
 request-is c m k o e = ap (λ (x : Mode). requestBy x (c .residence) (kindOf (c .message))) o ∙ ap (λ (x : Kind). requestBy m (c .residence) x) e
 
+-- the first messages
+pub first-of : (x : RecordKind) (q : Identity) → First q (firstOf x q)
+first-of Sync q = of-sync true
+first-of Delay q = of-delay
+
+first-identity : {q : Identity} {k : Kind} → First q k → kindIdentity k ≡ some q
+first-identity (of-sync b) = refl
+first-identity of-delay = refl
+
+second-identity : (x : RecordKind) (q : Identity) → kindIdentity (secondOf x q) ≡ some q
+second-identity Sync q = refl
+second-identity Delay q = refl
+
+-- what the rules are for them
+first-updates : {q : Identity} {k : Kind} (c : Call) → First q k → oneStepReply c k ≡ update c (acceptedOf (c .residence))
+first-updates c (of-sync b) = refl
+first-updates c of-delay = refl
+
+pub first-keeps : (c : Call) (table : Answer ℕ) (x : RecordKind) (q : Identity) → twoStepReply c table (firstOf x q) ≡ keep c (acceptedOf (c .residence)) table
+first-keeps c table Sync q = refl
+first-keeps c table Delay q = refl
+
+pub first-asks : (r : Residence) (x : RecordKind) (q : Identity) → twoStepRequest r (firstOf x q) ≡ keepRequest q (acceptedOf r)
+first-asks r Sync q = refl
+first-asks r Delay q = refl
+
+second-passes : (c : Call) (x : RecordKind) (q : Identity) → oneStepReply c (secondOf x q) ≡ asItCame c (value passed)
+second-passes c Sync q = refl
+second-passes c Delay q = refl
+
+pub second-gathers : (c : Call) (table : Answer ℕ) (x : RecordKind) (q : Identity) → twoStepReply c table (secondOf x q) ≡ gather c table
+second-gathers c table Sync q = refl
+second-gathers c table Delay q = refl
+
+pub second-asks : (r : Residence) (x : RecordKind) (q : Identity) → twoStepRequest r (secondOf x q) ≡ collect q
+second-asks r Sync q = refl
+second-asks r Delay q = refl
+
 module _ (c : Call) (table : Answer ℕ) (q : Identity) where
-  -- one-step: the Sync is added to
-  pub record Updated (b : Bool) (r : Reply) : Type 0 where
-    pub kind : kindOf (r .message) ≡ sync q b
+  -- one-step: the first message is added to
+  pub record Updated (k : Kind) (r : Reply) : Type 0 where
+    pub kind : kindOf (r .message) ≡ k
     pub pad : padOf (r .message) ≡ padOf (c .message) +ℤ pos (unitsOf (acceptedOf (c .residence)))
     pub answer : r .answer ≡ value updated
 
-  pub sync-one : (b : Bool) → c .mode ≡ oneStep → kindOf (c .message) ≡ sync q b → Unrefused (rules .reply c table) → Updated b (rules .reply c table)
-  sync-one b o e fine = rw (reply-is c table oneStep (sync q b) o e) (go (acceptedOf (c .residence)) refl (rw (reply-is c table oneStep (sync q b) o e) at fine))
+  pub first-one : {k : Kind} → First q k → c .mode ≡ oneStep → kindOf (c .message) ≡ k → Unrefused (rules .reply c table) → Updated k (rules .reply c table)
+  first-one {k} f o e fine = rw is (go (acceptedOf (c .residence)) refl (rw is at fine))
     where
-      go : (a : Answer ℕ) → acceptedOf (c .residence) ≡ a → Unrefused (update c a) → Updated b (update c a)
+      is : rules .reply c table ≡ update c (acceptedOf (c .residence))
+      is = reply-is c table oneStep k o e ∙ first-updates c f
+
+      go : (a : Answer ℕ) → acceptedOf (c .residence) ≡ a → Unrefused (update c a) → Updated k (update c a)
       go (refused n) p h = absurd (h n refl)
       go (value u) p h =
-          let r = raised c updated u 0 b q (is-sync (c .message) b q e) h in
+          let r = raised c updated u (sound-ptp (c .message) q (ap kindIdentity e ∙ first-identity f)) h in
           record {
-            kind = sync-kind (addToPad c updated u .message) b q (r .bears);
+            kind = r .kind ∙ e;
             pad = r .pad ∙ ap (λ (x : Answer ℕ). padOf (c .message) +ℤ pos (unitsOf x)) (sym p);
             answer = r .answer;
           }
 
-  -- two-step, S set: the message stays, and the table is asked to keep the residence
+  -- two-step, S set, or a Delay_Req: the message stays, and the table is asked to keep the residence
   pub record Kept (r : Reply) : Type 0 where
     pub message : r .message ≡ c .message
     pub answer : r .answer ≡ value waiting
@@ -77,22 +123,22 @@ module _ (c : Call) (table : Answer ℕ) (q : Identity) where
     pub asks : rules .request c ≡ add q (unitsOf (acceptedOf (c .residence)))
     pub taken : (n : ℕ) → table ≡ refused n → ⊥
 
-  pub sync-set : c .mode ≡ twoStep → kindOf (c .message) ≡ sync q true → Unrefused (rules .reply c table) → Kept (rules .reply c table)
-  sync-set o e fine =
+  pub first-two : (x : RecordKind) → c .mode ≡ twoStep → kindOf (c .message) ≡ firstOf x q → Unrefused (rules .reply c table) → Kept (rules .reply c table)
+  first-two x o e fine =
       rw is (go (acceptedOf (c .residence)) refl table refl (rw is at fine))
     where
       is : rules .reply c table ≡ keep c (acceptedOf (c .residence)) table
-      is = reply-is c table twoStep (sync q true) o e
+      is = reply-is c table twoStep (firstOf x q) o e ∙ first-keeps c table x q
 
-      go : (a : Answer ℕ) → acceptedOf (c .residence) ≡ a → (x : Answer ℕ) → table ≡ x → Unrefused (keep c a x) → Kept (keep c a x)
-      go (refused n) p x z h = absurd (h n refl)
+      go : (a : Answer ℕ) → acceptedOf (c .residence) ≡ a → (t : Answer ℕ) → table ≡ t → Unrefused (keep c a t) → Kept (keep c a t)
+      go (refused n) p t z h = absurd (h n refl)
       go (value u) p (refused n) z h = absurd (h n refl)
       go (value u) p (value v) z h =
           record {
             message = refl;
             answer = refl;
             units = p ∙ ap (λ (y : Answer ℕ). value (unitsOf y)) (sym p);
-            asks = request-is c twoStep (sync q true) o e ∙ rw p;
+            asks = request-is c twoStep (firstOf x q) o e ∙ first-asks (c .residence) x q ∙ rw p;
             taken = λ n f. let y : _≡_ {A = ℕ} 0 1 = cc in omega arith;
           }
 
@@ -133,26 +179,25 @@ module _ (c : Call) (table : Answer ℕ) (q : Identity) where
       go (refused n) p h = absurd (h n refl)
       go (value u) p h = room u p (ltb (length (c .output)) 36) h
 
-  -- one-step: a Follow_Up passes
-  pub follow-up-one : c .mode ≡ oneStep → kindOf (c .message) ≡ followUp q → rules .reply c table .message ≡ c .message
-  follow-up-one o e = rw (reply-is c table oneStep (followUp q) o e)
+  -- one-step: the second message passes
+  pub second-one : (x : RecordKind) → c .mode ≡ oneStep → kindOf (c .message) ≡ secondOf x q → rules .reply c table .message ≡ c .message
+  second-one x o e = ap (λ (r : Reply). r .message) (reply-is c table oneStep (secondOf x q) o e ∙ second-passes c x q)
 
   -- two-step: the record's residence is added to it
-  pub record Added (r : Reply) : Type 0 where
+  pub record Added (x : RecordKind) (r : Reply) : Type 0 where
     pub units : ℕ
     pub found : table ≡ value units
-    pub kind : kindOf (r .message) ≡ followUp q
+    pub kind : kindOf (r .message) ≡ secondOf x q
     pub pad : padOf (r .message) ≡ padOf (c .message) +ℤ pos units
 
-  pub follow-up-two : c .mode ≡ twoStep → kindOf (c .message) ≡ followUp q → Unrefused (rules .reply c table) → Added (rules .reply c table)
-  follow-up-two o e fine = rw is (go table refl (rw is at fine))
+  pub second-two : (x : RecordKind) → c .mode ≡ twoStep → kindOf (c .message) ≡ secondOf x q → Unrefused (rules .reply c table) → Added x (rules .reply c table)
+  second-two x o e fine = rw is (go table refl (rw is at fine))
     where
       is : rules .reply c table ≡ gather c table
-      is = reply-is c table twoStep (followUp q) o e
+      is = reply-is c table twoStep (secondOf x q) o e ∙ second-gathers c table x q
 
-      go : (x : Answer ℕ) → table ≡ x → Unrefused (gather c x) → Added (gather c x)
+      go : (t : Answer ℕ) → table ≡ t → Unrefused (gather c t) → Added x (gather c t)
       go (refused n) p h = absurd (h n refl)
       go (value u) p h =
-          let m = is-follow-up (c .message) q e in
-          let r = raised c added u 8 _ q m h in
-          record { units = u; found = p; kind = follow-up-kind (addToPad c added u .message) _ q (r .bears); pad = r .pad }
+          let r = raised c added u (sound-ptp (c .message) q (ap kindIdentity e ∙ second-identity x q)) h in
+          record { units = u; found = p; kind = r .kind ∙ e; pad = r .pad }

@@ -21,10 +21,11 @@ use Rattle.message.specs.Read.{isSubTlvLength, isSubTlv, subTlv, messageValue}
 use Rattle.message.specs.Write.{gAchHeader}
 use Rattle.message.proofs.Sound.{SoundHeader, SoundPtp, stated-length}
 use Rattle.scratch_pad.specs.Sum.{inRange}
+use Rattle.records.specs.declared.RecordKind.the-variants.{Sync}
 use Rattle.records.specs.declared.Identity.{Identity}
 use Rattle.rules.specs.Change.{padOf, withPad, withTwoStep, followUpFields, followUpOf}
-use Rattle.rules.specs.Rules.{identityIn}
-use Rattle.rules.proofs.Bearing.{Bears}
+use Rattle.rules.specs.Rules.{identityIn, ptpKind, kindOf}
+use Rattle.rules.proofs.Bearing.{Bears, taken}
 
 -- a store that leaves the first four octets, Type and Length keeps a sound header
 kept-header :
@@ -63,30 +64,28 @@ kept s vs n low type size is h =
       is = is;
     }
 
+-- another pad
+module _ (s : List ℕ) (h : SoundPtp s) (z : ℤ) (f : inRange z ≡ true) where
+  fits : SFits w64 z
+  fits = record { sfits = ltb-true _ _ f }
+
+  pub with-pad-pad : padOf (withPad s z) ≡ z
+  with-pad-pad = ap (toZ w64) (number-there s 4 8 (ofZ w64 z) (omega (arith, h .long)) (ofZ-fits w64 z fits .fits)) ∙ toZ-ofZ w64 z fits
+
+  -- the message is of the same kind
+  pub with-pad-kind : kindOf (withPad s z) ≡ kindOf s
+  with-pad-kind =
+      let vs = signedOctets z in
+      let type = number-behind s vs 4 2 12 (omega arith) in
+      let size = number-behind s vs 4 2 14 (omega arith) in
+      let v = drop-behind s vs 4 16 (omega arith) in
+      taken (withPad s z) (kept s vs 4 (omega arith) type size (rw v (h .is)) h)
+      ∙ ap (λ (w : List ℕ). ptpKind (subTlv w)) v
+      ∙ sym (taken s h)
+
 module _ (s : List ℕ) (k : ℕ) (b : Bool) (q : Identity) (m : Bears s k b q) where
   long : 36 ≤ length s
   long = m .sound .long
-
-  module _ (z : ℤ) (f : inRange z ≡ true) where
-    fits : SFits w64 z
-    fits = record { sfits = ltb-true _ _ f }
-
-    pub with-pad-pad : padOf (withPad s z) ≡ z
-    with-pad-pad = ap (toZ w64) (number-there s 4 8 (ofZ w64 z) (omega (arith, long)) (ofZ-fits w64 z fits .fits)) ∙ toZ-ofZ w64 z fits
-
-    pub with-pad-bears : Bears (withPad s z) k b q
-    with-pad-bears =
-        let vs = signedOctets z in
-        let type = number-behind s vs 4 2 12 (omega arith) in
-        let size = number-behind s vs 4 2 14 (omega arith) in
-        let v = drop-behind s vs 4 16 (omega arith) in
-        let h = m .sound in
-        record {
-          sound = kept s vs 4 (omega arith) type size (rw v (h .is)) h;
-          kind = rw v (m .kind);
-          two-step = rw v (m .two-step);
-          who = rw v (m .who);
-        }
 
   module _ (x : ℕ) (set : leb 128 x ≡ true) where
     -- octet 20 of the message alone is another
@@ -111,8 +110,8 @@ module _ (s : List ℕ) (k : ℕ) (b : Bool) (q : Identity) (m : Bears s k b q) 
         let clock = high 8 8 (omega arith) in
         let port = high 2 16 (omega arith) in
         let sequence = high 2 18 (omega arith) in
-        let same : identityIn (subTlv (drop 16 (put s 20 vs))) ≡ identityIn (subTlv (drop 16 s)) =
-        λ i. record { clock = clock i; port = port i; sequence = sequence i } in
+        let same : identityIn Sync (subTlv (drop 16 (put s 20 vs))) ≡ identityIn Sync (subTlv (drop 16 s)) =
+        λ i. record { kind = Sync; clock = clock i; port = port i; sequence = sequence i } in
         record {
           sound = kept s vs 20 (omega arith) type size (rw (low 2 0 (omega arith), low 2 2 (omega arith)) (h .is)) h;
           kind = rw last (m .kind);
@@ -152,8 +151,8 @@ module _ (s : List ℕ) (k : ℕ) (b : Bool) (q : Identity) (m : Bears s k b q) 
         let clock = number-drop 8 16 8 s in
         let port = number-drop 2 16 16 s in
         let sequence = number-drop 2 16 18 s in
-        let same : identityIn (subTlv (drop 16 written)) ≡ identityIn (subTlv (drop 16 s)) =
-        λ i. record { clock = sym clock i; port = sym port i; sequence = sym sequence i } in
+        let same : identityIn Sync (subTlv (drop 16 written)) ≡ identityIn Sync (subTlv (drop 16 s)) =
+        λ i. record { kind = Sync; clock = sym clock i; port = sym port i; sequence = sym sequence i } in
         record {
           sound =
               record {

@@ -1,5 +1,5 @@
 -- Document 01's rules meet what the theorem about orders asks of a node, and so the order of calls does not matter there; and a
--- record that a Sync left is found up to the second tick and gone at the third.
+-- record that a Sync or a Delay_Req left is found up to the second tick and gone at the third.
 -- Assumes nothing.
 use Prim.Native.Nat.{ℕ}
 use mathlib.Core.Path.{_≡_, refl, sym, ap, _∙_}
@@ -12,6 +12,8 @@ use Rattle.refusal.specs.Answer.{Answer, value, refused}
 use Rattle.refusal.proofs.Answers.{not-both}
 use Rattle.residence.specs.declared.Residence.{Residence}
 use Rattle.residence.specs.Residence.{acceptedOf}
+use Rattle.records.specs.declared.RecordKind.{RecordKind}
+use Rattle.records.specs.declared.RecordKind.the-variants.{Sync, Delay}
 use Rattle.records.specs.declared.Identity.{Identity}
 use Rattle.records.specs.declared.Record.{Record}
 use Rattle.records.specs.Slots.{Slots, find, vacant, addAnswer, collectAnswer}
@@ -20,37 +22,41 @@ use Rattle.records.specs.Ageing.{Waits}
 use Rattle.records.proofs.Orders.{order-free}
 use Rattle.records.proofs.Alone.{result-at, found-in-time, gone-at-third}
 use Rattle.image.proofs.Returns.{switched-keeps}
-use Rattle.rules.specs.Rules.{Kind, sync, followUp, timed, untimed, unreadable, kindIdentity, kindOf, Mode, oneStep, twoStep, Call, Reply, waiting, asItCame, gather, keepRequest, requestBy, replyBy, rules}
+use Rattle.rules.specs.Rules.{Kind, sync, followUp, delayReq, delayResp, firstOf, secondOf, timed, untimed, unreadable, kindIdentity, kindOf, Mode, oneStep, twoStep, Call, Reply, waiting, asItCame, keep, gather, keepRequest, requestBy, replyBy, rules}
 use Rattle.rules.specs.Demand3.{OrderDoesNotMatter, Waiting, AddedInTime, GoneAtThirdTick}
-use Rattle.rules.proofs.Calls.{reply-is, request-is, sync-set}
+use Rattle.rules.proofs.Calls.{reply-is, request-is, first-keeps, first-asks, first-two, second-gathers, second-asks}
 
 -- a call asks only for the record of its own identity
-own : (m : Mode) (r : Residence) (k : Kind) (q : Identity) → asked (requestBy m r k) ≡ some q → kindIdentity k ≡ some q
+own-kept : (p q : Identity) (a : Answer ℕ) → asked (keepRequest p a) ≡ some q → some p ≡ some q
+own-kept p q (value u) h = h
+own-kept p q (refused n) h = absurd (let z : _≡_ {A = ℕ} 0 1 = cc in omega arith)
+
+pub own : (m : Mode) (r : Residence) (k : Kind) (q : Identity) → asked (requestBy m r k) ≡ some q → kindIdentity k ≡ some q
 own oneStep r k q e = absurd (let z : _≡_ {A = ℕ} 0 1 = cc in omega arith)
 own twoStep r (sync p false) q e = absurd (let z : _≡_ {A = ℕ} 0 1 = cc in omega arith)
-own twoStep r (sync p true) q e = go (acceptedOf r) e
-  where
-    go : (a : Answer ℕ) → asked (keepRequest p a) ≡ some q → some p ≡ some q
-    go (value u) h = h
-    go (refused n) h = absurd (let z : _≡_ {A = ℕ} 0 1 = cc in omega arith)
+own twoStep r (sync p true) q e = own-kept p q (acceptedOf r) e
+own twoStep r (delayReq p) q e = own-kept p q (acceptedOf r) e
 own twoStep r (followUp p) q e = e
+own twoStep r (delayResp p) q e = e
 own twoStep r timed q e = e
 own twoStep r untimed q e = e
 own twoStep r (unreadable n) q e = e
 
--- only a two-step node's Sync with S set asks for a record to be added, with the residence that was accepted
+-- only a two-step node's Sync with S set, or Delay_Req, asks for a record to be added, with the residence that was accepted
+add-kept : (p q : Identity) (u : ℕ) (a : Answer ℕ) → keepRequest p a ≡ add q u → (p ≡ q) × (a ≡ value u)
+add-kept p q u (value v) h = (cc, cc)
+add-kept p q u (refused n) h = absurd (let z : _≡_ {A = ℕ} 0 1 = cc in omega arith)
+
 pub asks-add :
     (m : Mode) (r : Residence) (k : Kind) (q : Identity) (u : ℕ)
     → requestBy m r k ≡ add q u
-    → (m ≡ twoStep) × (k ≡ sync q true) × (acceptedOf r ≡ value u)
+    → (x : RecordKind) × (m ≡ twoStep) × (k ≡ firstOf x q) × (acceptedOf r ≡ value u)
 asks-add oneStep r k q u e = absurd (let z : _≡_ {A = ℕ} 0 1 = cc in omega arith)
 asks-add twoStep r (sync p false) q u e = absurd (let z : _≡_ {A = ℕ} 0 1 = cc in omega arith)
-asks-add twoStep r (sync p true) q u e = go (acceptedOf r) refl e
-  where
-    go : (a : Answer ℕ) → acceptedOf r ≡ a → keepRequest p a ≡ add q u → (twoStep ≡ twoStep) × (sync p true ≡ sync q true) × (acceptedOf r ≡ value u)
-    go (value v) f h = (refl, cc, cc)
-    go (refused n) f h = absurd (let z : _≡_ {A = ℕ} 0 1 = cc in omega arith)
+asks-add twoStep r (sync p true) q u e = let a = add-kept p q u (acceptedOf r) e in (Sync, refl, ap (λ (i : Identity). sync i true) (a .0), a .1)
+asks-add twoStep r (delayReq p) q u e = let a = add-kept p q u (acceptedOf r) e in (Delay, refl, ap delayReq (a .0), a .1)
 asks-add twoStep r (followUp p) q u e = absurd (let z : _≡_ {A = ℕ} 0 1 = cc in omega arith)
+asks-add twoStep r (delayResp p) q u e = absurd (let z : _≡_ {A = ℕ} 0 1 = cc in omega arith)
 asks-add twoStep r timed q u e = absurd (let z : _≡_ {A = ℕ} 0 1 = cc in omega arith)
 asks-add twoStep r untimed q u e = absurd (let z : _≡_ {A = ℕ} 0 1 = cc in omega arith)
 asks-add twoStep r (unreadable n) q u e = absurd (let z : _≡_ {A = ℕ} 0 1 = cc in omega arith)
@@ -59,7 +65,10 @@ asks-add twoStep r (unreadable n) q u e = absurd (let z : _≡_ {A = ℕ} 0 1 = 
 want : (m : Mode) (c : Call) (k : Kind) (q : Identity) (u : ℕ) → requestBy m (c .residence) k ≡ add q u → replyBy m c (refused 14) k .answer ≡ refused 14
 want m c k q u e =
     let a = asks-add m (c .residence) k q u e in
-    rw (a .0, a .1, a .2)
+    ap (λ (n : Mode). replyBy n c (refused 14) k .answer) (a .1)
+    ∙ ap (λ (l : Kind). replyBy twoStep c (refused 14) l .answer) (a .2)
+    ∙ ap (λ (r : Reply). r .answer) (first-keeps c (refused 14) (a .0) q)
+    ∙ ap (λ (b : Answer ℕ). keep c b (refused 14) .answer) (a .3)
 
 pub lawful : Lawful rules
 lawful =
@@ -90,13 +99,16 @@ put-in q u t fine = go (find q t) (vacant t) fine
     go none false h = absurd (h 14 refl)
 
 module _ (t : Slots) (es : List (Event Call)) (q : Identity) (u i j : ℕ) (d : Call) (w : Waiting t es q u i j d) where
+  abbrev k : RecordKind
+  k = q .kind
+
   waits : Waits rules t es q u i j
   waits =
       let c = w .handed in
       let T = final rules t (take i es) in
-      let asks = request-is c twoStep (sync q true) (w .two-step) (w .is-sync) ∙ ap (keepRequest q) (w .units) in
+      let asks = request-is c twoStep (firstOf k q) (w .two-step) (w .is-first) ∙ first-asks (c .residence) k q ∙ ap (keepRequest q) (w .units) in
       let came = came-to t es i c (asItCame c (value waiting)) (w .here) (w .outcome) in
-      let fine = sync-set c (tableAnswer (rules .request c) T) q (w .two-step) (w .is-sync) (λ n e. not-both (sym (ap (λ (r : Reply). r .answer) came ∙ e))) in
+      let fine = first-two c (tableAnswer (rules .request c) T) q k (w .two-step) (w .is-first) (λ n e. not-both (sym (ap (λ (r : Reply). r .answer) came ∙ e))) in
       record {
         adder = c;
         here = w .here;
@@ -106,13 +118,15 @@ module _ (t : Slots) (es : List (Event Call)) (q : Identity) (u i j : ℕ) (d : 
         alone = w .between;
       }
 
-  -- the Follow_Up's reply, by what the table has for it
+  -- the second message's reply, by what the table has for it
   answered : getElem? (run rules t es) j ≡ some (replied (gather d (tableAnswer (collect q) (final rules t (take j es)))))
   answered =
       let T = final rules t (take j es) in
-      let asks = request-is d twoStep (followUp q) (w .two-step-too) (w .is-follow-up) in
+      let asks = request-is d twoStep (secondOf k q) (w .two-step-too) (w .is-second) ∙ second-asks (d .residence) k q in
       reply-at t es j d (w .there)
-      ∙ ap (λ (r : Reply). some (replied r)) (reply-is d (tableAnswer (rules .request d) T) twoStep (followUp q) (w .two-step-too) (w .is-follow-up))
+      ∙ ap (λ (r : Reply). some (replied r))
+      (reply-is d (tableAnswer (rules .request d) T) twoStep (secondOf k q) (w .two-step-too) (w .is-second)
+      ∙ second-gathers d (tableAnswer (rules .request d) T) k q)
       ∙ ap (λ (a : Request). some (replied (gather d (tableAnswer a T)))) asks
 
 pub added-in-time : AddedInTime

@@ -9,3 +9,4 @@ pub mod Samples
 pub mod PathExample
 pub mod OrderExample
 pub mod BranchExamples
+pub mod DelayExample

@@ -15,14 +15,14 @@ use Rattle.residence.specs.declared.Residence.the-variants.{InvalidStamp}
 use Rattle.records.specs.declared.Identity.{Identity}
 use Rattle.records.specs.Slots.{Slots, same, holds, zeros, lowest, find}
 use Rattle.records.specs.Node.{Event, tick, call, switchover, Result, told, replied, taken-over, run, final}
-use Rattle.image.specs.Image.{sound, differ}
+use Rattle.image.specs.Image.{sound, ofSync, differ}
 use Rattle.rules.specs.Change.{padOf}
 use Rattle.rules.specs.Rules.{kindOf, kindIdentity, oneStep, twoStep, Call, Word, addToPad, updated, passed, created, waiting, added, rules}
-use Rattle.rules.specs.Path.{Stop, Apart, Every, SyncWay, FollowUpWay, FollowUps, born, residences}
+use Rattle.rules.specs.Path.{Stop, Apart, Every, FirstWay, SecondWay, FollowUps, born, residences}
 use Rattle.rules.specs.Demand3.{Waiting}
 use Rattle.rules.proofs.Laws.{added-in-time}
 use Rattle.rules.proofs.PathSums.{path-sum}
-use Rattle.rules.proofs.Samples.{numbered, octetsOf, stayed, spare, handedIn, recordOf, answers, after, visit, waits, Each, each}
+use Rattle.rules.proofs.Samples.{numbered, octetsOf, stayed, spare, handedIn, recordOf, answers, after, visit, waits, other, apart}
 
 -- the Sync's identity, and two others
 abbrev pub mine : Identity
@@ -41,7 +41,8 @@ aSync s pad = octetsOf mine s 0 (pos pad)
 abbrev pub aFollowUp : ℕ → List ℕ
 aFollowUp pad = octetsOf mine true 8 (pos pad)
 
--- messages with that very port and sequence that have no identity: of PTPTypes 1 and 4, and a Sync of Version 1
+-- messages with that very port and sequence that have another identity or none: a Delay_Req, others of PTPTypes 2 and 4, and a Sync of
+-- Version 1
 abbrev ofType : ℕ → List ℕ
 ofType k = octetsOf mine false k (pos 5)
 
@@ -84,8 +85,8 @@ first =
           ∷ call (handedIn oneStep (ofType 1) (stayed 9))
           ∷ tick
           ∷ [];
-      syncPlace = 4;
-      followUpPlace = none;
+      firstPlace = 4;
+      secondPlace = none;
     }
 
 abbrev second : Stop
@@ -101,8 +102,8 @@ second =
           ∷ tick
           ∷ call (handedIn oneStep (octetsOf theirs true 8 (pos 0)) (stayed 9))
           ∷ [];
-      syncPlace = 2;
-      followUpPlace = none;
+      firstPlace = 2;
+      secondPlace = none;
     }
 
 abbrev third : Stop
@@ -124,8 +125,8 @@ third =
           ∷ tick
           ∷ switchover
           ∷ [];
-      syncPlace = 3;
-      followUpPlace = some 8;
+      firstPlace = 3;
+      secondPlace = some 8;
     }
 
 abbrev path : List Stop
@@ -136,27 +137,27 @@ abbrev at : Stop → List (Result (Answer Word))
 at n = answers (run rules (n .table) (n .events))
 
 at-first : at first ≡ taken-over ∷ replied (refused 13) ∷ told 1 ∷ replied (refused 4) ∷ replied (value updated) ∷ replied (value updated) ∷ told 0 ∷ []
-unfolding same holds sound differ
+unfolding same holds sound ofSync differ
 at-first = refl
 
-at-second : at second ≡ replied (refused 16) ∷ replied (refused 9) ∷ replied (value created) ∷ replied (value added) ∷ told 0 ∷ replied (value passed) ∷ []
-unfolding same holds sound differ
+at-second : at second ≡ replied (value waiting) ∷ replied (refused 9) ∷ replied (value created) ∷ replied (value added) ∷ told 0 ∷ replied (value passed) ∷ []
+unfolding same holds sound ofSync differ
 at-second = refl
 
 at-third :
     at third
     ≡ told 0 ∷ replied (refused 4) ∷ replied (value passed) ∷ replied (value waiting) ∷ told 1 ∷ taken-over ∷ replied (refused 15)
     ∷ told 1 ∷ replied (value added) ∷ replied (value updated) ∷ told 0 ∷ taken-over ∷ []
-unfolding same holds sound differ
+unfolding same holds sound ofSync differ
 at-third = refl
 
 -- the first switchover there moves the Sync's record from slot 1 to slot 0
 slot-before : lowest (holds mine) (final rules spread (take 5 (third .events))) ≡ 1
-unfolding same holds sound differ
+unfolding same holds sound ofSync differ
 slot-before = refl
 
 slot-behind : lowest (holds mine) (final rules spread (take 6 (third .events))) ≡ 0
-unfolding same holds sound differ
+unfolding same holds sound ofSync differ
 slot-behind = refl
 
 -- the octets are document 01's, but for the sub-TLV's length: 16, as a neighbour writes it (W-202)
@@ -170,52 +171,35 @@ octets = refl
 abbrev left : List ℕ
 left = aFollowUp 13107200 ++ replicate 4 0
 
-sync-way : SyncWay (aSync false 0) path (aSync true 98304000)
-unfolding same holds sound differ
+sync-way : FirstWay (aSync false 0) path (aSync true 98304000)
+unfolding same holds sound ofSync differ
 sync-way =
-    SyncWay.cross (visit first 4 syncFirst updated (aSync false 98304000) spare refl refl refl)
-    (SyncWay.cross (visit second 2 syncSecond created (aSync true 98304000) left refl refl refl)
-    (SyncWay.cross (visit third 3 syncThird waiting (aSync true 98304000) spare refl refl refl) SyncWay.done))
+    FirstWay.cross (visit first 4 syncFirst updated (aSync false 98304000) spare refl refl refl)
+    (FirstWay.cross (visit second 2 syncSecond created (aSync true 98304000) left refl refl refl)
+    (FirstWay.cross (visit third 3 syncThird waiting (aSync true 98304000) spare refl refl refl) FirstWay.done))
 
-follow-up-way : FollowUpWay (aFollowUp 13107200) (third ∷ []) (aFollowUp 16384000)
-unfolding same holds sound differ
-follow-up-way = FollowUpWay.cross 8 refl (visit third 8 followUpThird added (aFollowUp 16384000) spare refl refl refl) FollowUpWay.done
+follow-up-way : SecondWay (aFollowUp 13107200) (third ∷ []) (aFollowUp 16384000)
+unfolding same holds sound ofSync differ
+follow-up-way = SecondWay.cross 8 refl (visit third 8 followUpThird added (aFollowUp 16384000) spare refl refl refl) SecondWay.done
 
 follow-ups : FollowUps mine false path (pos 0) (padOf (aFollowUp 16384000))
-unfolding same holds sound differ
+unfolding same holds sound ofSync differ
 follow-ups =
     born (first ∷ []) second {r = after created (aSync true 98304000) left} {last = aFollowUp 16384000} refl refl
     (List·Permᴰ·cons refl List·Permᴰ·nil) follow-up-way
 
--- a call with the Sync's identity stands at the node's two places alone
-abbrev pub isMine : Option Identity → Bool
-isMine none = false
-isMine (some p) = same p mine
-
-pub other : {A : Type 0} {o : Option Identity} → isMine o ≡ false → o ≡ some mine → A
-unfolding same
-other f e = absurd (true≢false (sym (ap isMine e) ∙ f))
-
-abbrev pub Placed : Stop → ℕ → Event Call → Type 0
-Placed n k tick = Unit {0}
-Placed n k switchover = Unit {0}
-Placed n k (call c) = kindIdentity (kindOf (c .message)) ≡ some mine → (k ≡ n .syncPlace) ⊎ (some k ≡ n .followUpPlace)
-
-pub apart : (n : Stop) → find mine (n .table) ≡ none → Each (Placed n) (n .events) → Apart mine n
-apart n free h = record { free = free; others = λ k c. each (Placed n) (n .events) h k (call c) }
-
 third-apart : Apart mine third
-unfolding same holds sound differ
+unfolding same holds sound ofSync differ
 third-apart =
-    apart third refl
+    apart mine third refl
     (tt, (other refl, (other refl, (λ e. inl refl, (tt, (tt, (other refl, (tt, (λ e. inr refl, (other refl, (tt, (tt, tt))))))))))))
 
 all-apart : Every (Apart mine) path
-unfolding same holds sound differ
+unfolding same holds sound ofSync differ
 all-apart = (
-  apart first refl (tt, (other refl, (tt, (other refl, (λ e. inl refl, (other refl, (tt, tt))))))),
+  apart mine first refl (tt, (other refl, (tt, (other refl, (λ e. inl refl, (other refl, (tt, tt))))))),
   (
-    apart second refl (other refl, (other refl, (λ e. inl refl, (other refl, (tt, (other refl, tt)))))),
+    apart mine second refl (other refl, (other refl, (λ e. inl refl, (other refl, (tt, (other refl, tt)))))),
     (third-apart, tt),
   ),
 )
@@ -235,7 +219,7 @@ in-numbers = sum
 
 -- at the third node the Follow_Up comes two ticks and a switchover after the Sync, in time
 waiting-third : Waiting spread (third .events) mine (50 * 65536) 3 8 followUpThird
-unfolding same holds sound differ
+unfolding same holds sound ofSync differ
 waiting-third =
     waits mine third (50 * 65536) 3 8 syncThird followUpThird third-apart refl refl (omega arith) (refl, refl, refl, refl) refl (refl, refl, refl)
 

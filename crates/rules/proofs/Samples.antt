@@ -1,11 +1,11 @@
 -- For the worked examples of demand 3: messages of type 3, calls on them, the answers of a run, and every place of a list in turn.
 -- Assumes nothing.
 use Prim.Native.Nat.{ℕ, zero, suc, _*_, _<_}
-use mathlib.Core.Path.{_≡_, refl, sym, subst}
-use mathlib.Core.Bool.{Bool, true}
+use mathlib.Core.Path.{_≡_, refl, sym, ap, subst, _∙_}
+use mathlib.Core.Bool.{Bool, true, false, true≢false}
 use mathlib.Core.List.{List, [], _∷_, map}
 use mathlib.Core.Logic.{_⊎_, inl, inr}
-use mathlib.Core.Option.{some}
+use mathlib.Core.Option.{Option, none, some}
 use native.Mathlib.Omega.{arith}
 use lib.IntN.{ℤ}
 use lib.ListN.{getElem?, replicate}
@@ -15,16 +15,19 @@ use Rattle.residence.specs.declared.Residence.{Residence}
 use Rattle.residence.specs.declared.Residence.the-variants.{Units}
 use Rattle.residence.specs.Residence.{acceptedOf}
 use Rattle.message.specs.Write.{ptpOctets}
+use Rattle.records.specs.declared.RecordKind.the-variants.{Sync}
 use Rattle.records.specs.declared.Identity.{Identity}
 use Rattle.records.specs.declared.Record.{Record}
-use Rattle.records.specs.Node.{call, Result, told, replied, taken-over}
-use Rattle.rules.specs.Rules.{sync, followUp, kindOf, Mode, twoStep, Call, Word, waiting, asItCame, Reply}
+use Rattle.records.specs.Slots.{same, find}
+use Rattle.records.specs.Node.{Event, tick, call, switchover, Result, told, replied, taken-over}
+use Rattle.records.proofs.Holding.{same-refl}
+use Rattle.rules.specs.Rules.{firstOf, secondOf, kindOf, kindIdentity, Mode, twoStep, Call, Word, waiting, asItCame, Reply}
 use Rattle.rules.specs.Path.{Stop, ReplyAt, Visit, Apart}
 use Rattle.rules.specs.Demand3.{Waiting}
 
 -- the identity of document 01's cases, and others of its port: port 00 01 02 03 04 05 06 07 00 01
 abbrev pub numbered : ℕ → Identity
-numbered n = record { clock = 0x0001020304050607; port = 1; sequence = n }
+numbered n = record { kind = Sync; clock = 0x0001020304050607; port = 1; sequence = n }
 
 -- the octets of a neighbour's message with this identity, by S, PTPType and pad: its sub-TLV states 16
 abbrev pub octetsOf : Identity → Bool → ℕ → ℤ → List ℕ
@@ -49,7 +52,7 @@ handedIn m s r = record { mode = m; message = s; residence = r; output = spare }
 
 -- a record of an identity, with a residence of 7 units
 abbrev pub recordOf : Identity → ℕ → Record
-recordOf q w = record { clock = q .clock; port = q .port; sequence = q .sequence; residence = 7; wait = w }
+recordOf q w = record { kind = q .kind; clock = q .clock; port = q .port; sequence = q .sequence; residence = 7; wait = w }
 
 -- what a run tells and answers, octets aside
 abbrev answered : Result Reply → Result (Answer Word)
@@ -73,33 +76,34 @@ pub visit :
 visit n k c w m out here mode outcome =
     record { handed = c; here = here; mode = mode; octets = refl; outcome = outcome; unrefused = λ a e. not-both (sym e) }
 
--- a Sync that waits and its Follow_Up, at their places of a node with no other call of the identity, from what computing shows
+-- a Sync or a Delay_Req that waits, and its second message, at their places of a node with no other call of the identity, from what
+-- computing shows
 pub waits :
     (q : Identity) (n : Stop) (u i j : ℕ) (c d : Call)
     → Apart q n
-    → n .syncPlace ≡ i
-    → n .followUpPlace ≡ some j
+    → n .firstPlace ≡ i
+    → n .secondPlace ≡ some j
     → i < j
-    → (getElem? (n .events) i ≡ some (call c)) × (c .mode ≡ twoStep) × (kindOf (c .message) ≡ sync q true) × (acceptedOf (c .residence) ≡ value u)
+    → (getElem? (n .events) i ≡ some (call c)) × (c .mode ≡ twoStep) × (kindOf (c .message) ≡ firstOf (q .kind) q) × (acceptedOf (c .residence) ≡ value u)
     → ReplyAt n i (asItCame c (value waiting))
-    → (getElem? (n .events) j ≡ some (call d)) × (d .mode ≡ twoStep) × (kindOf (d .message) ≡ followUp q)
+    → (getElem? (n .events) j ≡ some (call d)) × (d .mode ≡ twoStep) × (kindOf (d .message) ≡ secondOf (q .kind) q)
     → Waiting (n .table) (n .events) q u i j d
 waits q n u i j c d alone at-i at-j less first outcome second =
     record {
       handed = c;
       here = first .0;
       two-step = first .1;
-      is-sync = first .2;
+      is-first = first .2;
       units = first .3;
       outcome = outcome;
       then = less;
       there = second .0;
       two-step-too = second .1;
-      is-follow-up = second .2;
+      is-second = second .2;
       between = λ k x a b e w. neither k a b (alone .others k x e w);
     }
   where
-    neither : (k : ℕ) → i < k → k < j → (k ≡ n .syncPlace) ⊎ (some k ≡ n .followUpPlace) → ⊥
+    neither : (k : ℕ) → i < k → k < j → (k ≡ n .firstPlace) ⊎ (some k ≡ n .secondPlace) → ⊥
     neither k a b (inl e) = omega (arith, at-i)
     neither k a b (inr e) = let f : k ≡ j = cc in omega arith
 
@@ -112,3 +116,20 @@ pub each : {A : Type 0} (P : ℕ → A → Type 0) (xs : List A) → Each P xs �
 each P [] h k x e = absurd (let z : _≡_ {A = ℕ} 0 1 = cc in omega arith)
 each P (y ∷ ys) h zero x e = let f : y ≡ x = cc in subst (P 0) f (h .0)
 each P (y ∷ ys) h (suc k) x e = each (λ k. P (suc k)) ys (h .1) k x e
+
+-- a call of another identity, or of none
+abbrev isOf : Identity → Option Identity → Bool
+isOf q none = false
+isOf q (some p) = same p q
+
+pub other : {q : Identity} {A : Type 0} {o : Option Identity} → isOf q o ≡ false → o ≡ some q → A
+other {q} f e = absurd (true≢false (sym (same-refl q) ∙ sym (ap (isOf q) e) ∙ f))
+
+-- a node at whose two places alone stand calls of an identity
+abbrev Placed : Identity → Stop → ℕ → Event Call → Type 0
+Placed q n k tick = Unit {0}
+Placed q n k switchover = Unit {0}
+Placed q n k (call c) = kindIdentity (kindOf (c .message)) ≡ some q → (k ≡ n .firstPlace) ⊎ (some k ≡ n .secondPlace)
+
+pub apart : (q : Identity) (n : Stop) → find q (n .table) ≡ none → Each (Placed q n) (n .events) → Apart q n
+apart q n free h = record { free = free; others = λ k c. each (Placed q n) (n .events) h k (call c) }

@@ -4,7 +4,7 @@
 use Prim.Native.Nat.{ℕ, _+_, _<_, _≤_}
 use mathlib.Core.Path.{_≡_}
 use mathlib.Core.Bool.{Bool, true}
-use mathlib.Core.List.{List}
+use mathlib.Core.List.{List, List·Permᴰ}
 use mathlib.Core.Option.{none, some}
 use lib.IntN.{ℤ, pos, _+ℤ_}
 use lib.ListN.{getElem?, take}
@@ -15,8 +15,8 @@ use Rattle.records.specs.Slots.{Slots, find}
 use Rattle.records.specs.Node.{Event, call, replied, run, final}
 use Rattle.records.specs.Order.{ticks, OrderFree}
 use Rattle.rules.specs.Change.{padOf}
-use Rattle.rules.specs.Rules.{sync, followUp, kindOf, kindIdentity, twoStep, Call, waiting, added, asItCame, addToPad, rules}
-use Rattle.rules.specs.Path.{Stop, Apart, Every, SyncWay, FollowUps, residences}
+use Rattle.rules.specs.Rules.{sync, delayReq, delayResp, firstOf, secondOf, kindOf, kindIdentity, twoStep, Call, waiting, added, asItCame, addToPad, rules}
+use Rattle.rules.specs.Path.{Stop, Apart, Every, FirstWay, SecondWay, FollowUps, residences}
 
 -- First half. "Then, whatever other calls, refused ones too, and ticks those nodes get, the sum of the final pads is the sum of the
 -- starting pads plus every stay of the Sync, a missing Follow_Up counting 0." The sums are of whole numbers; the path has any
@@ -27,9 +27,22 @@ PathSum =
     (q : Identity) (s : Bool) (start last : List ℕ) (path : List Stop) (first second : ℤ)
     → kindOf start ≡ sync q s
     → Every (Apart q) path
-    → SyncWay start path last
+    → FirstWay start path last
     → FollowUps q s path first second
     → padOf last +ℤ second ≡ padOf start +ℤ first +ℤ pos (residences path)
+
+-- "Demand 3 holds for a Delay_Req and its Delay_Resp where both cross the same nodes, each once, with the Delay_Resp's pad as the second"
+-- (document 02, W-204). The Delay_Resp takes them in any order, as a rule backwards; S has no part in it, and nothing is created.
+abbrev pub DelayPathSum : Type 0
+DelayPathSum =
+    (q : Identity) (request last response end : List ℕ) (path back : List Stop)
+    → kindOf request ≡ delayReq q
+    → kindOf response ≡ delayResp q
+    → Every (Apart q) path
+    → FirstWay request path last
+    → List·Permᴰ back path
+    → SecondWay response back end
+    → padOf last +ℤ padOf end ≡ padOf request +ℤ padOf response +ℤ pos (residences path)
 
 -- Second half. "take every list of node calls, refused ones too, and ticks, from any table, and every other order of it that keeps
 -- each identity's order and each call between the same ticks. If neither refuses a call for want of a slot, the two give equal
@@ -37,21 +50,22 @@ PathSum =
 abbrev pub OrderDoesNotMatter : Type 0
 OrderDoesNotMatter = OrderFree rules
 
--- The Sync's call at place i of a list was answered "waiting", and the Follow_Up's call at place j is the next of the identity.
+-- The call on a Sync or a Delay_Req at place i of a list was answered "waiting", and the call on its Follow_Up or Delay_Resp at place j is
+-- the next of the identity, whose kind says which of the two pairs it is.
 pub record Waiting (t : Slots) (es : List (Event Call)) (q : Identity) (u i j : ℕ) (d : Call) : Type 0 where
   pub handed : Call
   pub here : getElem? es i ≡ some (call handed)
   pub two-step : handed .mode ≡ twoStep
-  pub is-sync : kindOf (handed .message) ≡ sync q true
+  pub is-first : kindOf (handed .message) ≡ firstOf (q .kind) q
   pub units : acceptedOf (handed .residence) ≡ value u
   pub outcome : getElem? (run rules t es) i ≡ some (replied (asItCame handed (value waiting)))
   pub then : i < j
   pub there : getElem? es j ≡ some (call d)
   pub two-step-too : d .mode ≡ twoStep
-  pub is-follow-up : kindOf (d .message) ≡ followUp q
+  pub is-second : kindOf (d .message) ≡ secondOf (q .kind) q
   pub between : (k : ℕ) (c : Call) → i < k → k < j → getElem? es k ≡ some (call c) → kindIdentity (kindOf (c .message)) ≡ some q → ⊥
 
--- up to the second tick the Follow_Up is added to, with the Sync's residence, or refused with 11 where the sum does not fit
+-- up to the second tick the second message is added to, with the first one's residence, or refused with 11 where the sum does not fit
 abbrev pub AddedInTime : Type 0
 AddedInTime =
     (t : Slots) (es : List (Event Call)) (q : Identity) (u i j : ℕ) (d : Call)
@@ -59,7 +73,7 @@ AddedInTime =
     → ticks j es ≤ ticks i es + 2
     → getElem? (run rules t es) j ≡ some (replied (addToPad d added u))
 
--- "A record ages out at the third tick after the Sync's call at that node.": the record is gone, and the Follow_Up refused with 15
+-- "A record ages out at the third tick after the Sync's call at that node.": the record is gone, and the second message refused with 15
 abbrev pub GoneAtThirdTick : Type 0
 GoneAtThirdTick =
     (t : Slots) (es : List (Event Call)) (q : Identity) (u i j : ℕ) (d : Call)

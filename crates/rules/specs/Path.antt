@@ -1,4 +1,5 @@
--- The path of one Sync and its Follow_Up (demand 3, first half; document 01, "On the path each node has such a list ..").
+-- The path of two messages, a first and a second: a Sync and its Follow_Up (demand 3, first half; document 01, "On the path each node
+-- has such a list .."), or a Delay_Req and its Delay_Resp (document 02, W-204).
 use Prim.Native.Nat.{ℕ, _+_}
 use mathlib.Core.Path.{_≡_}
 use mathlib.Core.Bool.{Bool, true, false}
@@ -13,17 +14,17 @@ use Rattle.records.specs.declared.Identity.{Identity}
 use Rattle.records.specs.Slots.{Slots, find}
 use Rattle.records.specs.Node.{Event, tick, call, switchover, replied, run}
 use Rattle.rules.specs.Change.{padOf}
-use Rattle.rules.specs.Rules.{followUp, kindOf, kindIdentity, Mode, Call, created, Reply, rules}
+use Rattle.rules.specs.Rules.{Kind, sync, delayReq, followUp, kindOf, kindIdentity, Mode, Call, created, Reply, rules}
 
 -- A node of the path: "each in one fixed mode with a table of its own", its list of calls, ticks and switchovers, and the places in
--- it of the Sync's call and, where the Follow_Up crosses this node, of the Follow_Up's. (At a node that it does not cross nothing is asked
--- of that place.)
+-- it of the first message's call and, where the second crosses this node, of the second's. (At a node that it does not cross nothing is
+-- asked of that place.)
 pub record Stop : Type 0 where
   pub mode : Mode
   pub table : Slots
   pub events : List (Event Call)
-  pub syncPlace : ℕ
-  pub followUpPlace : Option ℕ
+  pub firstPlace : ℕ
+  pub secondPlace : Option ℕ
 
 -- what came of the call at place k of the node's whole list
 abbrev pub ReplyAt : Stop → ℕ → Reply → Type 0
@@ -39,34 +40,44 @@ pub record Visit (n : Stop) (k : ℕ) (m : List ℕ) (r : Reply) : Type 0 where
   pub unrefused : (a : ℕ) → r .answer ≡ refused a → ⊥
 
 -- "The list's starting table holds no record with the Sync's port and sequence, and no message in the list except the Sync and
--- the Follow_Up bears them." Only the identity is excluded: an unreadable message, or one of another PTPType, may stand there.
+-- the Follow_Up bears them." Only the identity is excluded: an unreadable message, or one of another PTPType, may stand there, and so may
+-- a record or a message of the other kind (W-204).
 pub record Apart (q : Identity) (n : Stop) : Type 0 where
   pub free : find q (n .table) ≡ none
   pub others :
       (k : ℕ) (c : Call)
       → getElem? (n .events) k ≡ some (call c)
       → kindIdentity (kindOf (c .message)) ≡ some q
-      → (k ≡ n .syncPlace) ⊎ (some k ≡ n .followUpPlace)
+      → (k ≡ n .firstPlace) ⊎ (some k ≡ n .secondPlace)
 
 abbrev pub Every : (Stop → Type 0) → List Stop → Type 0
 Every P [] = Unit {0}
 Every P (n ∷ ns) = P n × Every P ns
 
--- "The Sync takes the nodes in the path's order", and "comes to a node with the octets that the node before left": it starts
--- with the octets s and ends with the last ones
-pub data SyncWay : List ℕ → List Stop → List ℕ → Type 0 where
-  done : {s : List ℕ} → SyncWay s [] s
-  cross : {n : Stop} {ns : List Stop} {s last : List ℕ} {r : Reply} → Visit n (n .syncPlace) s r → SyncWay (r .message) ns last → SyncWay s (n ∷ ns) last
+-- a first message: a Sync, with S set or clear, or a Delay_Req
+pub data First (q : Identity) : Kind → Type 0 where
+  of-sync : (s : Bool) → First q (sync q s)
+  of-delay : First q (delayReq q)
 
--- the Follow_Up likewise, over its nodes in its own order
-pub data FollowUpWay : List ℕ → List Stop → List ℕ → Type 0 where
-  done : {f : List ℕ} → FollowUpWay f [] f
+-- "The Sync takes the nodes in the path's order", and "comes to a node with the octets that the node before left": it starts
+-- with the octets s and ends with the last ones. So does a Delay_Req.
+pub data FirstWay : List ℕ → List Stop → List ℕ → Type 0 where
+  done : {s : List ℕ} → FirstWay s [] s
+  cross :
+      {n : Stop} {ns : List Stop} {s last : List ℕ} {r : Reply}
+      → Visit n (n .firstPlace) s r
+      → FirstWay (r .message) ns last
+      → FirstWay s (n ∷ ns) last
+
+-- the second message likewise, over its nodes in its own order
+pub data SecondWay : List ℕ → List Stop → List ℕ → Type 0 where
+  done : {f : List ℕ} → SecondWay f [] f
   cross :
       {n : Stop} {ns : List Stop} {f last : List ℕ} {r : Reply} (k : ℕ)
-      → n .followUpPlace ≡ some k
+      → n .secondPlace ≡ some k
       → Visit n k f r
-      → FollowUpWay (r .message) ns last
-      → FollowUpWay f (n ∷ ns) last
+      → SecondWay (r .message) ns last
+      → SecondWay f (n ∷ ns) last
 
 -- The Follow_Up of a Sync with this S over a path, by its starting pad and its final one.
 pub data FollowUps (q : Identity) : Bool → List Stop → ℤ → ℤ → Type 0 where
@@ -76,24 +87,24 @@ pub data FollowUps (q : Identity) : Bool → List Stop → ℤ → ℤ → Type 
       {ns fs : List Stop} {f last : List ℕ}
       → kindOf f ≡ followUp q
       → List·Permᴰ fs ns
-      → FollowUpWay f fs last
+      → SecondWay f fs last
       → FollowUps q true ns (padOf f) (padOf last)
   -- "With S clear it has none until a node creates one, its starting pad counted as 0, which then crosses the nodes after", in
   -- any order; "a created one leaves its node as the 36 octets written"
   born :
       (before : List Stop) (n : Stop) {after fs : List Stop} {r : Reply} {last : List ℕ}
-      → ReplyAt n (n .syncPlace) r
+      → ReplyAt n (n .firstPlace) r
       → r .answer ≡ value created
       → List·Permᴰ fs after
-      → FollowUpWay (take 36 (r .output)) fs last
+      → SecondWay (take 36 (r .output)) fs last
       → FollowUps q false (before ++ n ∷ after) (pos 0) (padOf last)
   -- "a missing Follow_Up counting 0": no node creates one
   never :
       {ns : List Stop}
-      → Every (λ n. (r : Reply) → ReplyAt n (n .syncPlace) r → r .answer ≡ value created → ⊥) ns
+      → Every (λ n. (r : Reply) → ReplyAt n (n .firstPlace) r → r .answer ≡ value created → ⊥) ns
       → FollowUps q false ns (pos 0) (pos 0)
 
--- "the stays those of the Sync's calls in pad units"
+-- "the stays those of the Sync's calls in pad units", or of the Delay_Req's
 abbrev pub unitsOf : Answer ℕ → ℕ
 unitsOf (value u) = u
 unitsOf (refused n) = 0
@@ -105,7 +116,7 @@ unitsIn (some switchover) = 0
 unitsIn (some (call c)) = unitsOf (acceptedOf (c .residence))
 
 abbrev pub residenceAt : Stop → ℕ
-residenceAt n = unitsIn (getElem? (n .events) (n .syncPlace))
+residenceAt n = unitsIn (getElem? (n .events) (n .firstPlace))
 
 abbrev pub residences : List Stop → ℕ
 residences [] = 0

@@ -1,15 +1,16 @@
--- A switchover is never refused in service (document 02, W-201): what node calls, ticks and switchovers make of a new or a loaded table
--- can always be written.
+-- What stops a switchover in service (document 02, W-201 and W-204): nothing but a Delay record. What node calls, ticks and switchovers
+-- make of a new or a loaded table can be written whenever no Delay record waits; a switchover that is refused leaves the table as it is.
 use Prim.Native.Nat.{ℕ}
 use mathlib.Core.Path.{_≡_}
+use mathlib.Core.Bool.{true}
 use mathlib.Core.List.{List}
 use mathlib.Core.Option.{some}
 use lib.ListN.{getElem?, replicate}
 use Rattle.octets.specs.Octets.{Octets}
 use Rattle.refusal.specs.Answer.{value}
-use Rattle.records.specs.Slots.{Slots, zeros}
+use Rattle.records.specs.Slots.{Slots, zeros, recordsOf}
 use Rattle.records.specs.Node.{Event, call, final}
-use Rattle.image.specs.Image.{imageOf, loadOf}
+use Rattle.image.specs.Image.{every, ofSync, imageOf, loadOf}
 use Rattle.rules.specs.Rules.{Call, rules}
 
 -- a table that a card starts with
@@ -26,4 +27,5 @@ AlwaysWritten =
     (t : Slots) (es : List (Event Call))
     → Started t
     → InOctets es
+    → every ofSync (recordsOf (final rules t es)) ≡ true
     → (s : List ℕ) × (imageOf (final rules t es) ≡ value s)

@@ -12,7 +12,7 @@ use Rattle.refusal.specs.Answer.{value, refused, refuse}
 use Rattle.records.specs.declared.Record.{Record}
 use Rattle.records.specs.Slots.{Slots, Outcome, zeros}
 use Rattle.image.specs.Layout.{fieldsAt, bodySize, firstBody, offsets, countIn, isLaidOut, bodiesIn}
-use Rattle.image.specs.Image.{form, recordOf, every, sound, distinct, loadable, filled, recordsAt, loadOf, loadBy, loadInto}
+use Rattle.image.specs.Image.{form, recordOf, every, sound, ofSync, distinct, loadable, filled, recordsAt, loadOf, loadBy, loadInto}
 use Rattle.image.proofs.Layouts.{length-places}
 
 -- the records that fill the slots are the first of them
@@ -39,7 +39,7 @@ module _ (s : List ℕ) where
   pub too-many : 16 < countIn form s → loadOf s ≡ refused 22
   too-many h =
       let rs = recordsAt s in
-      unloadable (ap (λ (b : Bool). b && (every sound rs && distinct rs)) (lt-leb (length rs) 16 (omega (arith, length-records))))
+      unloadable (ap (λ (b : Bool). b && (every sound rs && (every ofSync rs && distinct rs))) (lt-leb (length rs) 16 (omega (arith, length-records))))
 
   -- a refusal that hands back slots of zeros
   pub not-loaded : (slot : Record) (l : Outcome) → slot ≡ zeros → l ≡ loadBy (replicate 16 slot) (refused 22) → loadOf s ≡ refused 22 → l ≡ loadInto s (replicate 16 zeros)

@@ -1,10 +1,11 @@
 // The records of a table as an image lists them, and which records an image can hold.
 use records::Record;
+use records::RecordKind;
 ghost use Prim.Native.Nat.{_+_, _<_, _≤_};
 ghost use mathlib.Core.Path.{_≡_};
 ghost use lib.ListN.{length, getD, take, drop};
 ghost use Rattle.records.specs.Slots.{identityOf, zeros, recordsOf};
-ghost use Rattle.image.specs.Image.{sound, every, differ, loadable, filled};
+ghost use Rattle.image.specs.Image.{sound, ofSync, every, differ, loadable, filled};
 
 // Records from slot 0 on, and how many; the other slots are zeros.
 pub(crate) struct Listing {
@@ -43,6 +44,17 @@ fn is_sound(slot: Record) -> bool
     slot.residence < residence::LIMIT
 }
 
+// The record is of kind Sync.
+fn is_of_sync(slot: Record) -> bool
+    ensures { λ r. ⌜ r ≡ ofSync slot ⌝ }
+{
+    let kind = slot.kind;
+    match kind {
+        RecordKind::Sync => true,
+        RecordKind::Delay => false,
+    }
+}
+
 // The identity of record i differs from those of the records after it, of n.
 fn differs_from_rest(records: [Record; 16], n: usize, i: usize) -> bool
     requires { ⌜ (n ≤ 16) × (i < n) ⌝ }
@@ -69,6 +81,9 @@ pub(crate) fn are_loadable(records: [Record; 16], n: usize) -> bool
     while i < n {
         let record = records[i];
         if !is_sound(record) {
+            return false;
+        }
+        if !is_of_sync(record) {
             return false;
         }
         if !differs_from_rest(records, n, i) {

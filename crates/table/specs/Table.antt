@@ -6,6 +6,7 @@ use Rattle.records.specs.declared.Identity.{Identity}
 use Rattle.records.specs.Slots.{Slots, Outcome, ticked, emptied}
 use Rattle.records.specs.Node.{Request, add, collect, tableAnswer, tableAfter}
 use Rattle.switchover.specs.Answers.{loadingAnswer}
+use Rattle.table.specs.declared.Table.{Table}
 use Rattle.table.specs.declared.Entry.{Entry}
 use Rattle.table.specs.declared.Entry.the-variants as entry
 use Rattle.table.specs.declared.Found.{Found}
@@ -14,6 +15,10 @@ use Rattle.table.specs.declared.Entered.{Entered}
 use Rattle.table.specs.declared.Taken.{Taken}
 use Rattle.table.specs.declared.Ticked.{Ticked}
 use Rattle.table.specs.declared.Reloaded.{Reloaded}
+
+-- the slots of a table: what contracts and statements say of a table they say of these
+abbrev pub slotsOf : Table → Slots
+slotsOf t = t .slots
 
 -- "waiting" says no number: 0
 abbrev pub entryAnswer : Entry → Answer ℕ
@@ -25,14 +30,14 @@ foundAnswer (found.Residence u) = value u
 foundAnswer (found.Refused n) = refused n
 
 abbrev pub entered : Entered → Outcome
-entered r = record { answer = entryAnswer (r .answer); slots = r .table .slots }
+entered r = record { answer = entryAnswer (r .answer); slots = slotsOf (r .table) }
 
 abbrev pub taken : Taken → Outcome
-taken r = record { answer = foundAnswer (r .answer); slots = r .table .slots }
+taken r = record { answer = foundAnswer (r .answer); slots = slotsOf (r .table) }
 
 -- a tick's answer is its count
 abbrev pub counted : Ticked → Outcome
-counted r = record { answer = value (r .emptied); slots = r .table .slots }
+counted r = record { answer = value (r .emptied); slots = slotsOf (r .table) }
 
 -- what adding, collecting and a tick come to
 abbrev pub requestOf : Request → Slots → Outcome
@@ -49,4 +54,4 @@ tickOf t = record { answer = value (emptied t); slots = ticked t }
 
 -- loading an image, which leaves the table that came where it is refused (`image` Image.`loadInto`)
 abbrev pub reloaded : Reloaded → Outcome
-reloaded r = record { answer = loadingAnswer (r .answer); slots = r .table .slots }
+reloaded r = record { answer = loadingAnswer (r .answer); slots = slotsOf (r .table) }

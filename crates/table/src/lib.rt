@@ -11,7 +11,7 @@ ghost use Rattle.records.specs.Node.{tableAnswer};
 ghost use Rattle.records.specs.Node.{collect as collect·request};
 ghost use Rattle.refusal.specs.Written.{written};
 ghost use Rattle.image.specs.Image.{writeOf, loadInto};
-ghost use Rattle.table.specs.Table.{addOf, collectOf, tickOf, foundAnswer, entered, taken, counted, reloaded};
+ghost use Rattle.table.specs.Table.{slotsOf, addOf, collectOf, tickOf, foundAnswer, entered, taken, counted, reloaded};
 
 pub struct Table {
     pub slots: [Record; 16],
@@ -82,7 +82,7 @@ fn age(slot: Record) -> Record
 impl Table {
     // A table with no records: all zeros.
     pub fn new() -> Table
-        ensures { λ r. ⌜ r .slots ≡ replicate 16 zeros ⌝ }
+        ensures { λ r. ⌜ slotsOf r ≡ replicate 16 zeros ⌝ }
     {
         let slot = Record::zeros();
         Table { slots: [slot; 16] }
@@ -90,7 +90,7 @@ impl Table {
 
     // The lowest slot that holds a record with this identity; 16 where none does.
     fn place(self, identity: Identity) -> usize
-        ensures { λ r. ⌜ r ≡ lowest (holds identity) (self .slots) ⌝ }
+        ensures { λ r. ⌜ r ≡ lowest (holds identity) (slotsOf self) ⌝ }
     {
         let slots = self.slots;
         let mut i: usize = 0;
@@ -106,7 +106,7 @@ impl Table {
 
     // The lowest empty slot; 16 where none is.
     fn vacancy(self) -> usize
-        ensures { λ r. ⌜ r ≡ lowest empty (self .slots) ⌝ }
+        ensures { λ r. ⌜ r ≡ lowest empty (slotsOf self) ⌝ }
     {
         let slots = self.slots;
         let mut i: usize = 0;
@@ -122,7 +122,7 @@ impl Table {
 
     // The residence of the record with this identity; refusal 15 where there is none.
     pub fn find(self, identity: Identity) -> Found
-        ensures { λ r. ⌜ foundAnswer r ≡ tableAnswer (collect·request identity) (self .slots) ⌝ }
+        ensures { λ r. ⌜ foundAnswer r ≡ tableAnswer (collect·request identity) (slotsOf self) ⌝ }
     {
         let at = self.place(identity);
         if 16 <= at {
@@ -136,7 +136,7 @@ impl Table {
     // Puts a record with a wait of 3 into the lowest empty slot; refusal 13 where one with its
     // identity waits already, 14 where no slot is empty.
     pub fn add(self, identity: Identity, residence: u64) -> Entered
-        ensures { λ r. ⌜ entered r ≡ addOf identity residence (self .slots) ⌝ }
+        ensures { λ r. ⌜ entered r ≡ addOf identity residence (slotsOf self) ⌝ }
     {
         if self.place(identity) < 16 {
             return Entered {
@@ -152,7 +152,9 @@ impl Table {
             };
         }
         let mut slots = self.slots;
+        let kind = identity.kind;
         slots[at] = Record {
+            kind,
             clock: identity.clock,
             port: identity.port,
             sequence: identity.sequence,
@@ -168,7 +170,7 @@ impl Table {
 
     // Takes the record with this identity out; refusal 15 where there is none.
     pub fn collect(self, identity: Identity) -> Taken
-        ensures { λ r. ⌜ taken r ≡ collectOf identity (self .slots) ⌝ }
+        ensures { λ r. ⌜ taken r ≡ collectOf identity (slotsOf self) ⌝ }
     {
         let at = self.place(identity);
         if 16 <= at {
@@ -189,7 +191,7 @@ impl Table {
 
     // Lowers every wait above 0 by one, empties the slots whose wait reaches 0, and counts them.
     pub fn tick(self) -> Ticked
-        ensures { λ r. ⌜ counted r ≡ tickOf (self .slots) ⌝ }
+        ensures { λ r. ⌜ counted r ≡ tickOf (slotsOf self) ⌝ }
     {
         let mut slots = self.slots;
         let mut emptied: u8 = 0;
@@ -209,7 +211,7 @@ impl Table {
     // Writes the image of this table at the start of the output, which stays as it came beyond the
     // size and on refusal. Only records count. Refusal 22 where they could not be loaded, then 12.
     pub fn write(self, out: &mut [u8]) -> Written
-        ensures { λ r. ⌜ written r (now (out .exit)) ≡ writeOf (self .slots) (now (out .entry)) ⌝ }
+        ensures { λ r. ⌜ written r (now (out .exit)) ≡ writeOf (slotsOf self) (now (out .entry)) ⌝ }
     {
         let slots = self.slots;
         switchover::write(slots, out)
@@ -218,7 +220,7 @@ impl Table {
     // The table that an image loads: its records from slot 0 on, in its order, and zeros. Refusal
     // 22 for any other octets, with the table that came.
     pub fn load(self, octets: &[u8]) -> Reloaded
-        ensures { λ r. ⌜ reloaded r ≡ loadInto (now (octets .entry)) (self .slots) ⌝ }
+        ensures { λ r. ⌜ reloaded r ≡ loadInto (now (octets .entry)) (slotsOf self) ⌝ }
     {
         let loaded = switchover::load(octets);
         let slots = loaded.slots;

@@ -11,7 +11,7 @@ use stamp::ptp;
 use table::Table;
 
 // Stamps that are so many nanoseconds apart.
-fn ptp_stamps(nanoseconds: u32) -> Stamps {
+pub(crate) fn ptp_stamps(nanoseconds: u32) -> Stamps {
     let entry = ptp::Stamp {
         seconds: 0,
         nanoseconds: 0,
@@ -34,7 +34,7 @@ fn ntp_stamps(seconds: u32, fraction: u32) -> Stamps {
 }
 
 // Hands a message to a two-step node, prints the answer, and hands the table on.
-fn hand(table: Table, message: &mut [u8], output: &mut [u8], stamps: Stamps) -> Table {
+pub(crate) fn hand(table: Table, message: &mut [u8], output: &mut [u8], stamps: Stamps) -> Table {
     let done = rtm::two_step(table, message, output, stamps);
     let answer = done.answer;
     print::text(b", ");

@@ -1,6 +1,7 @@
 // Runs what tells a story over several calls, and what a case of `vectors` cannot hold, and prints a
 // line for each. A case that is an input and a line stands in the data of `vectors`.
 mod clocks;
+mod delays;
 mod headers;
 mod lengths;
 mod limits;
@@ -15,4 +16,5 @@ fn main() {
     headers::run();
     lengths::run();
     clocks::run();
+    delays::run();
 }

@@ -7,12 +7,14 @@ use message::SubTlv;
 use message::layout;
 use message::types;
 use records::Record;
+use records::RecordKind;
 use residence::Residence;
 use table::Table;
 
-// The identity of a case: the port and sequence alike.
+// A Sync's record. Port and sequence are alike.
 pub(crate) fn record(identity: u16, residence: u64, wait: u8) -> Record {
     Record {
+        kind: RecordKind::Sync,
         clock: identity as u64,
         port: identity,
         sequence: identity,
@@ -138,5 +140,8 @@ pub(crate) fn run() {
     without_residence(types::SYNC, Residence::InvalidStamp);
     without_residence(types::SYNC, Residence::TooLong);
     without_residence(types::DELAY_REQ, Residence::InvalidStamp);
+    without_residence(types::DELAY_REQ, Residence::TooLong);
+    without_residence(types::PDELAY_RESP, Residence::InvalidStamp);
     without_residence(types::DELAY_RESP, Residence::InvalidStamp);
+    without_residence(types::LAST_PTP_TYPE, Residence::InvalidStamp);
 }

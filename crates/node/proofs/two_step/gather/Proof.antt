@@ -8,7 +8,7 @@ use Rattle.records.specs.Node.{collect, tableAnswer, collectLeaves}
 use Rattle.records.specs.Slots.{Outcome}
 use Rattle.table.specs.Table.{foundAnswer}
 use Rattle.rules.specs.Rules.{added, padBy}
-use Rattle.node.proofs.Replies.{absent, gathered, too-far}
+use Rattle.node.proofs.Replies.{second-alike, absent, gathered, too-far}
 use borrow.Author.Needs.{needs}
 use Rattle.node.proofs.two_step.gather.Statement.{statement}
 use Rattle.node.proofs.two_step.gather.Tie as tie
@@ -17,32 +17,8 @@ use Rattle.node.proofs.two_step.gather.Tie as tie
 found : (c : tie.After-units) → tableAnswer (collect (c .before .before .before .before .args .identity)) (c .before .before .before .before .args .table .slots) ≡ value (c .units .given .0 .0)
 found c = sym (ap foundAnswer (sym (c .units .given .1)) ∙ c .before .before .find .ensures)
 
-find-requires : tie.Need-find-requires
-find-requires c κs = search needs
-
-enum-known-units : tie.Need-enum-known-units
-enum-known-units c = search needs
-
-add-to-pad-requires : tie.Need-add-to-pad-requires
-add-to-pad-requires c κs = search needs
-
-enum-told : tie.Need-enum-told
-enum-told c = search needs
-
-collect-requires : tie.Need-collect-requires
-collect-requires c κs = search needs
-
-enum-known-n : tie.Need-enum-known-n
-enum-known-n c = search needs
-
-enum-known-n-2 : tie.Need-enum-known-n-2
-enum-known-n-2 c = search needs
-
-same-length : tie.Need-same-length
-same-length c = search needs
-
 returns : tie.Need-returns
-returns c = λ o x.
+returns c = λ k o x.
     let a = c .before .before .before .before .before .before .before .before .before .before .before .before .before .args in
     let t = a .table .slots in
     let m = a .message .now in
@@ -52,12 +28,10 @@ returns c = λ o x.
     let s = ap (λ (y : Outcome). y .slots) (c .before .collect .ensures) ∙ ap (collectLeaves (λ u. true) (a .identity) t) e in
     (λ i. record { reply = record { answer = value added; message = l i; output = o }; slots = s i })
     ∙ gathered t (a .identity) m o x (c .before .before .before .before .before .before .before .before .before .units .given .0 .0) _ e f
-
-same-length-2 : tie.Need-same-length-2
-same-length-2 c = search needs
+    ∙ second-alike t (a .identity) m o x k
 
 returns-2 : tie.Need-returns-2
-returns-2 c = λ o x.
+returns-2 c = λ k o x.
     let a = c .before .before .before .before .before .before .before .before .before .before .before .before .args in
     let t = a .table .slots in
     let m = a .message .now in
@@ -67,25 +41,21 @@ returns-2 c = λ o x.
     let l = c .before .before .before .before .before .add-to-pad .ensures .1 ∙ ap (padBy m) f in
     (λ i. record { reply = record { answer = refused n; message = l i; output = o }; slots = t })
     ∙ too-far t (a .identity) m o x (c .before .before .before .before .before .before .before .before .units .given .0 .0) n e f
+    ∙ second-alike t (a .identity) m o x k
 
 returns-3 : tie.Need-returns-3
-returns-3 c = λ o x.
+returns-3 c = λ k o x.
     let a = c .before .before .before .before .before .args in
     absent (a .table .slots) (a .identity) (a .message .now) o x (c .before .n2 .given .0 .0) (sym (ap foundAnswer (sym (c .before .n2 .given .1)) ∙ c .before .before .before .find .ensures))
+    ∙ second-alike (a .table .slots) (a .identity) (a .message .now) o x k
 
 pub gather-spec : {M : Type 1} → statement M
 gather-spec =
     tie.close
     (tie.spec
-    find-requires
-    enum-known-units
-    add-to-pad-requires
-    enum-told
-    collect-requires
-    enum-known-n
-    enum-known-n-2
-    same-length
+    (λ c κs. search needs) (λ c. search needs) (λ c κs. search needs) (λ c. search needs) (λ c κs. search needs)
+    (λ c. search needs) (λ c. search needs) (λ c. search needs)
     returns
-    same-length-2
+    (λ c. search needs)
     returns-2
     returns-3)

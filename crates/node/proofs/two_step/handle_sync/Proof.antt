@@ -4,6 +4,7 @@ use mathlib.Core.Path.{sym, ap, _∙_}
 use Prim.Native.Nat.{ℕ}
 use mathlib.Core.Bool.{Bool}
 use Rattle.refusal.specs.Answer.{Answer}
+use Rattle.records.specs.declared.RecordKind.the-variants.{Sync}
 use Rattle.rules.specs.Rules.{Reply, sync, create, callBy}
 use Rattle.node.specs.Answers.{unitsAnswer}
 use Rattle.node.specs.Calls.{twoStepCall}
@@ -12,34 +13,13 @@ use borrow.Author.Needs.{needs}
 use Rattle.node.proofs.two_step.handle_sync.Statement.{statement}
 use Rattle.node.proofs.two_step.handle_sync.Tie as tie
 
-accept-requires : tie.Need-accept-requires
-accept-requires c κs = search needs
-
-enum-known-units : tie.Need-enum-known-units
-enum-known-units c = search needs
-
-keep-requires : tie.Need-keep-requires
-keep-requires c κs = search needs
-
 returns : tie.Need-returns
 returns c =
     let a = c .before .before .before .before .before .before .before .before .args in
     let d = twoStepCall (a .message .now) (a .output .now) (a .residence) in
     let e = ap unitsAnswer (sym (c .before .before .before .units .given .1)) ∙ c .before .before .before .before .before .accept .ensures in
-    c .keep .ensures (a .message .now) (a .output .now) (a .residence) (sym e)
+    c .keep .ensures Sync (a .message .now) (a .output .now) (a .residence) (sym e)
     ∙ ap (λ (b : Bool). callBy (a .table .slots) d (sync (a .identity) b)) (sym (c .before .if1 .taken))
-
-create-requires : tie.Need-create-requires
-create-requires c κs = search needs
-
-enum-known-n : tie.Need-enum-known-n
-enum-known-n c = search needs
-
-same-length : tie.Need-same-length
-same-length c = search needs
-
-same-length-2 : tie.Need-same-length-2
-same-length-2 c = search needs
 
 returns-2 : tie.Need-returns-2
 returns-2 c =
@@ -61,13 +41,8 @@ pub handle-sync-spec : {M : Type 1} → statement M
 handle-sync-spec =
     tie.close
     (tie.spec
-    accept-requires
-    enum-known-units
-    keep-requires
+    (λ c κs. search needs) (λ c. search needs) (λ c κs. search needs)
     returns
-    create-requires
-    enum-known-n
-    same-length
-    same-length-2
+    (λ c κs. search needs) (λ c. search needs) (λ c. search needs) (λ c. search needs)
     returns-2
     returns-3)

@@ -5,6 +5,7 @@ use mathlib.Core.Path.{_≡_, ap, _∙_}
 use borrow.Author.Needs.{needs}
 use native.Mathlib.Omega.{arith}
 use Rattle.octets.specs.Octets.{number}
+use Rattle.records.specs.declared.RecordKind.the-variants.{Sync}
 use Rattle.switchover.proofs.bodies.record_at.Statement.{statement}
 use Rattle.switchover.proofs.bodies.record_at.Tie as tie
 
@@ -18,6 +19,7 @@ returns c =
     let wait-at : a .at + 20 ≡ a .at + 8 + 2 + 2 + 8 = omega arith in
     λ i.
     record {
+      kind = Sync;
       clock = (c .before .before .before .before .read64 .ensures ∙ ap (number 8 s) clock-at) i;
       port = c .before .before .before .read16 .ensures i;
       sequence = (c .before .before .read162 .ensures ∙ ap (number 2 s) sequence-at) i;
