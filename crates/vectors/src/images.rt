@@ -1,12 +1,9 @@
-// Operations 10 and 11: the image of a table, written and loaded.
+// Operations 10, 11 and 19: the image of a table, written and loaded.
 use crate::format;
 use crate::tables;
 use table::Loading;
 use table::Table;
 use table::Written;
-
-// Where the room stands in the body, behind the table.
-const ROOM: usize = 336;
 
 fn write_in(out: &mut [u8], body: &[u8]) {
     print::text(b"image-write ");
@@ -20,10 +17,11 @@ fn write_in(out: &mut [u8], body: &[u8]) {
 
 pub(crate) fn run_write(body: &[u8]) {
     let mut out = format::output();
-    let room = octets::read16(body, ROOM) as usize;
+    let room = octets::read16(body, tables::SIZE) as usize;
     write_in(&mut out[0..room], body);
 }
 
+// The image loaded over a new table.
 pub(crate) fn run_load(body: &[u8]) {
     let loaded = Table::new().load(format::counted(body));
     let answer = loaded.answer;
@@ -34,4 +32,17 @@ pub(crate) fn run_load(body: &[u8]) {
             print::number(b" refused ", n as u64);
         }
     }
+}
+
+// The image loaded over the table of the body.
+pub(crate) fn run_replace(body: &[u8]) {
+    let loaded = tables::read(body).load(format::counted(format::after(body, tables::SIZE)));
+    let answer = loaded.answer;
+    print::text(b"image-replace ");
+    match answer {
+        Loading::Replaced => print::text(b"loaded"),
+        Loading::Refused(n) => print::refused(n),
+    }
+    ;
+    tables::show(loaded.table);
 }

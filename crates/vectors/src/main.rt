@@ -7,6 +7,7 @@ mod joins;
 mod lists;
 mod one_step;
 mod read;
+mod requests;
 mod residences;
 mod stamps;
 mod tables;
@@ -32,6 +33,9 @@ fn run(operation: u8, body: &[u8]) {
         14 => residences::run_ntp(body),
         15 => one_step::run_ntp(body),
         16 => two_step::run_ntp(body),
+        17 => requests::run_add(body),
+        18 => requests::run_collect(body),
+        19 => images::run_replace(body),
         _ => return,
     }
     print::end_line();

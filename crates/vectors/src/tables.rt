@@ -1,19 +1,42 @@
-// A table in a case and in a line: 16 slots of 21 octets, each port identity (clock identity 8, port
-// number 2), sequence (2), residence in pad units (8) and wait (1).
+// A table in a case and in a line: 16 slots of 22 octets, each kind (1: 0 Sync, 1 Delay), port
+// identity (clock identity 8, port number 2), sequence (2), residence in pad units (8) and wait (1).
 use crate::format;
 use libc::STDOUT_FILENO;
+use records::Identity;
 use records::Record;
+use records::RecordKind;
 use table::Table;
 
-const SLOT_SIZE: usize = 21;
+// The octets of a table.
+pub(crate) const SIZE: usize = 352;
+
+const SLOT_SIZE: usize = 22;
+
+fn kind(number: u8) -> RecordKind {
+    match number {
+        1 => RecordKind::Delay,
+        _ => RecordKind::Sync,
+    }
+}
+
+// The identity at the start of s: kind, port identity and sequence.
+pub(crate) fn identity(s: &[u8]) -> Identity {
+    Identity {
+        kind: kind(octets::read8(s, 0)),
+        clock: octets::read64(s, 1),
+        port: octets::read16(s, 9),
+        sequence: octets::read16(s, 11),
+    }
+}
 
 fn slot(s: &[u8]) -> Record {
     Record {
-        clock: octets::read64(s, 0),
-        port: octets::read16(s, 8),
-        sequence: octets::read16(s, 10),
-        residence: octets::read64(s, 12),
-        wait: (octets::read16(s, 19) % 256) as u8,
+        kind: kind(octets::read8(s, 0)),
+        clock: octets::read64(s, 1),
+        port: octets::read16(s, 9),
+        sequence: octets::read16(s, 11),
+        residence: octets::read64(s, 13),
+        wait: octets::read8(s, 21),
     }
 }
 
@@ -30,6 +53,8 @@ pub(crate) fn read(s: &[u8]) -> Table {
 }
 
 fn print_slot(slot: Record) {
+    let kind = slot.kind;
+    io::print_hex(STDOUT_FILENO, kind.number() as u64, 2);
     io::print_hex(STDOUT_FILENO, slot.clock, 16);
     io::print_hex(STDOUT_FILENO, slot.port as u64, 4);
     io::print_hex(STDOUT_FILENO, slot.sequence as u64, 4);

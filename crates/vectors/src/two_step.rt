@@ -5,11 +5,11 @@ use crate::tables;
 use stamp::Stamps;
 
 // The fields of the body behind the table.
-const STAMPS: usize = 336;
+const STAMPS: usize = tables::SIZE;
 
-const ROOM: usize = 352;
+const ROOM: usize = tables::SIZE + 16;
 
-const MESSAGE: usize = 354;
+const MESSAGE: usize = tables::SIZE + 18;
 
 fn run_in(message: &mut [u8], out: &mut [u8], stamps: Stamps, body: &[u8]) {
     let done = rtm::two_step(tables::read(body), message, out, stamps);
