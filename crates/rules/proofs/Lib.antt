@@ -1,3 +1,4 @@
+pub mod PtpTypes
 pub mod Bearing
 pub mod Changes
 pub mod Calls
