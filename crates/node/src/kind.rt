@@ -26,31 +26,33 @@ fn identity_in(kind: RecordKind, sub_tlv: SubTlv) -> Identity
     ensures { λ r. ⌜ r ≡ identityIn kind «sub_tlv» ⌝ }
 {
     Identity {
-        kind,
         clock: sub_tlv.clock,
         port: sub_tlv.port,
         sequence: sub_tlv.sequence,
+        kind,
     }
 }
 
 fn of_ptp(sub_tlv: SubTlv) -> Handling
     ensures { λ r. ⌜ kindAnswer r ≡ ptpKind «sub_tlv» ⌝ }
 {
+    let of_sync = identity_in(RecordKind::Sync, sub_tlv);
+    let of_delay = identity_in(RecordKind::Delay, sub_tlv);
     let ptp_type = sub_tlv.ptp_type;
     if ptp_type == types::SYNC {
-        return Handling::Sync(identity_in(RecordKind::Sync, sub_tlv), sub_tlv.two_step);
+        return Handling::Sync(of_sync, sub_tlv.two_step);
     }
     if ptp_type == types::DELAY_REQ {
-        return Handling::DelayReq(identity_in(RecordKind::Delay, sub_tlv));
+        return Handling::DelayReq(of_delay);
     }
     if ptp_type <= types::PDELAY_RESP {
         return Handling::Timed;
     }
     if ptp_type == types::FOLLOW_UP {
-        return Handling::FollowUp(identity_in(RecordKind::Sync, sub_tlv));
+        return Handling::FollowUp(of_sync);
     }
     if ptp_type == types::DELAY_RESP {
-        return Handling::DelayResp(identity_in(RecordKind::Delay, sub_tlv));
+        return Handling::DelayResp(of_delay);
     }
     Handling::Untimed
 }

@@ -1,6 +1,6 @@
-// The records that wait for a Follow_Up (document 01, What a node does): what they are, and, in
-// specs/ and proofs/, what a table of them does and the theorem that the order of calls at a node
-// does not matter. The table itself is the crate `table`.
+// The records that wait for a Follow_Up or a Delay_Resp (document 01, What a node does; document 02,
+// W-204): what they are, and, in specs/ and proofs/, what a table of them does and the theorem that
+// the order of calls at a node does not matter. The table itself is the crate `table`.
 ghost use mathlib.Core.Path.{_≡_};
 ghost use Rattle.records.specs.Slots.{kindNumber, identityOf, same, zeros as zeros·spec};
 
@@ -14,20 +14,20 @@ pub enum RecordKind {
 // The identity of a Sync or Follow_Up, a Delay_Req or Delay_Resp: its kind, its port identity, in
 // two numbers, and its sequence.
 pub struct Identity {
-    pub kind: RecordKind,
     pub clock: u64,
     pub port: u16,
     pub sequence: u16,
+    pub kind: RecordKind,
 }
 
 // A slot of the table. It is empty exactly when its wait is 0, whatever else it holds; otherwise
 // it holds a record: an identity, a residence (document 01's "stay") in pad units, and the number
 // of ticks after which it is gone.
 pub struct Record {
-    pub kind: RecordKind,
     pub clock: u64,
     pub port: u16,
     pub sequence: u16,
+    pub kind: RecordKind,
     pub residence: u64,
     pub wait: u8,
 }
@@ -71,10 +71,10 @@ impl Record {
     {
         let kind = self.kind;
         Identity {
-            kind,
             clock: self.clock,
             port: self.port,
             sequence: self.sequence,
+            kind,
         }
     }
 
@@ -83,10 +83,10 @@ impl Record {
         ensures { λ r. ⌜ r ≡ zeros·spec ⌝ }
     {
         Record {
-            kind: RecordKind::Sync,
             clock: 0,
             port: 0,
             sequence: 0,
+            kind: RecordKind::Sync,
             residence: 0,
             wait: 0,
         }

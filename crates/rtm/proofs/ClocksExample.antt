@@ -25,16 +25,16 @@ use Rattle.rtm.proofs.Runs.{stamped-path-sum}
 use Rattle.rtm.proofs.RoundedPaths.{path-rounded-down}
 
 -- stamps so many nanoseconds apart, and NTP stamps from the largest to 0 s n: n + 1 units of 2^-32 second
-abbrev nanoseconds : ℕ → Stamps
+abbrev pub nanoseconds : ℕ → Stamps
 nanoseconds n = Ptp (record { seconds = 0; nanoseconds = 0 }) (record { seconds = 0; nanoseconds = n })
 
-abbrev pastWrap : ℕ → Stamps
+abbrev pub pastWrap : ℕ → Stamps
 pastWrap n = Ntp (record { seconds = 4294967295; fraction = 4294967295 }) (record { seconds = 0; fraction = n })
 
-abbrev handedIn : Mode → List ℕ → Stamps → StampedCall
+abbrev pub handedIn : Mode → List ℕ → Stamps → StampedCall
 handedIn m s stamps = record { mode = m; message = s; stamps = stamps; output = spare }
 
-abbrev new : Slots
+abbrev pub new : Slots
 new = replicate 16 zeros
 
 -- the calls on the two

@@ -26,14 +26,14 @@ use Rattle.rules.proofs.Laws.{added-in-time, gone-at-third-tick}
 use Rattle.rules.proofs.PathSums.{delay-path-sum}
 use Rattle.rules.proofs.Samples.{numbered, octetsOf, stayed, spare, handedIn, recordOf, answers, visit, waits, other, apart}
 
-abbrev mine : Identity
+abbrev pub mine : Identity
 mine = record { kind = Delay; clock = 0x0001020304050607; port = 1; sequence = 258 }
 
 -- the Delay_Req with S clear and the Delay_Resp with S set, by their pads; a Sync of that port and sequence, and its Follow_Up
-abbrev request : ℤ → List ℕ
+abbrev pub request : ℤ → List ℕ
 request pad = octetsOf mine false 1 pad
 
-abbrev response : ℤ → List ℕ
+abbrev pub response : ℤ → List ℕ
 response pad = octetsOf mine true 9 pad
 
 abbrev aSync : List ℕ

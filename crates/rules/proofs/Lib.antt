@@ -11,3 +11,4 @@ pub mod PathExample
 pub mod OrderExample
 pub mod BranchExamples
 pub mod DelayExample
+pub mod ServiceExample

@@ -22,10 +22,14 @@ pub data Started : Slots → Type 0 where
 abbrev pub InOctets : List (Event Call) → Type 0
 InOctets es = (k : ℕ) (c : Call) → getElem? es k ≡ some (call c) → Octets (c .message)
 
+-- no Delay record waits
+abbrev pub NoDelay : Slots → Type 0
+NoDelay t = every ofSync (recordsOf t) ≡ true
+
 abbrev pub AlwaysWritten : Type 0
 AlwaysWritten =
     (t : Slots) (es : List (Event Call))
     → Started t
     → InOctets es
-    → every ofSync (recordsOf (final rules t es)) ≡ true
+    → NoDelay (final rules t es)
     → (s : List ℕ) × (imageOf (final rules t es) ≡ value s)

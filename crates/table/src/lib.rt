@@ -154,10 +154,10 @@ impl Table {
         let mut slots = self.slots;
         let kind = identity.kind;
         slots[at] = Record {
-            kind,
             clock: identity.clock,
             port: identity.port,
             sequence: identity.sequence,
+            kind,
             residence,
             wait: 3,
         };

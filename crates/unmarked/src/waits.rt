@@ -14,10 +14,10 @@ use table::Table;
 // A Sync's record. Port and sequence are alike.
 pub(crate) fn record(identity: u16, residence: u64, wait: u8) -> Record {
     Record {
-        kind: RecordKind::Sync,
         clock: identity as u64,
         port: identity,
         sequence: identity,
+        kind: RecordKind::Sync,
         residence,
         wait,
     }
