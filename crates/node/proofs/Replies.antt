@@ -61,10 +61,15 @@ module _ (t : Slots) (q : Identity) (m o : List ℕ) (x : Residence) where
       go true h = absurd (not-both (sym h))
       go false h = refl
 
-  by-table : (a : Answer ℕ) → tableAnswer (collect q) t ≡ a → callBy t (twoStepCall m o x) (followUp q) ≡ record { reply = gather (twoStepCall m o x) a; slots = collectLeaves (rules .commits (twoStepCall m o x)) q t a }
+  by-table :
+      (a : Answer ℕ) → tableAnswer (collect q) t ≡ a
+      → callBy t (twoStepCall m o x) (followUp q)
+      ≡ record { reply = gather (twoStepCall m o x) a; slots = collectLeaves (rules .commits (twoStepCall m o x)) q t a }
   by-table a e = ap (λ (y : Answer ℕ). record { reply = gather (twoStepCall m o x) y; slots = collectLeaves (rules .commits (twoStepCall m o x)) q t y }) e
 
-  pub absent : (n : ℕ) → tableAnswer (collect q) t ≡ refused n → record { reply = asItCame (twoStepCall m o x) (refused n); slots = t } ≡ callBy t (twoStepCall m o x) (followUp q)
+  pub absent :
+      (n : ℕ) → tableAnswer (collect q) t ≡ refused n
+      → record { reply = asItCame (twoStepCall m o x) (refused n); slots = t } ≡ callBy t (twoStepCall m o x) (followUp q)
   absent n e = sym (by-table (refused n) e)
 
   pub gathered :

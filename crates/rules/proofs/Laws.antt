@@ -83,10 +83,17 @@ pub order-does-not-matter : OrderDoesNotMatter
 order-does-not-matter = order-free rules lawful
 
 -- what a call came to, from the result at its place
-pub reply-at : (t : Slots) (es : List (Event Call)) (i : ℕ) (c : Call) → getElem? es i ≡ some (call c) → getElem? (run rules t es) i ≡ some (replied (rules .reply c (tableAnswer (rules .request c) (final rules t (take i es)))))
+pub reply-at :
+    (t : Slots) (es : List (Event Call)) (i : ℕ) (c : Call)
+    → getElem? es i ≡ some (call c)
+    → getElem? (run rules t es) i ≡ some (replied (rules .reply c (tableAnswer (rules .request c) (final rules t (take i es)))))
 reply-at t es i c e = result-at rules t es i (call c) e
 
-pub came-to : (t : Slots) (es : List (Event Call)) (i : ℕ) (c : Call) (r : Reply) → getElem? es i ≡ some (call c) → getElem? (run rules t es) i ≡ some (replied r) → r ≡ rules .reply c (tableAnswer (rules .request c) (final rules t (take i es)))
+pub came-to :
+    (t : Slots) (es : List (Event Call)) (i : ℕ) (c : Call) (r : Reply)
+    → getElem? es i ≡ some (call c)
+    → getElem? (run rules t es) i ≡ some (replied r)
+    → r ≡ rules .reply c (tableAnswer (rules .request c) (final rules t (take i es)))
 came-to t es i c r e f = cc (reply-at t es i c e)
 
 -- a record that the table does not refuse is put in

@@ -15,7 +15,8 @@ use Rattle.records.specs.Slots.{Slots, find}
 use Rattle.records.specs.Node.{Event, call, replied, run, final}
 use Rattle.records.specs.Order.{ticks, OrderFree}
 use Rattle.rules.specs.Change.{padOf}
-use Rattle.rules.specs.Rules.{sync, delayReq, delayResp, firstOf, secondOf, kindOf, kindIdentity, twoStep, Call, waiting, added, asItCame, addToPad, rules}
+use Rattle.rules.specs.Rules.{sync, delayReq, delayResp, firstOf, secondOf, kindOf, kindIdentity}
+use Rattle.rules.specs.Rules.{twoStep, Call, waiting, added, asItCame, addToPad, rules}
 use Rattle.rules.specs.Path.{Stop, Apart, Every, FirstWay, SecondWay, FollowUps, residences}
 
 -- First half. "Then, whatever other calls, refused ones too, and ticks those nodes get, the sum of the final pads is the sum of the

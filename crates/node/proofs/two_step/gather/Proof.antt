@@ -14,7 +14,10 @@ use Rattle.node.proofs.two_step.gather.Statement.{statement}
 use Rattle.node.proofs.two_step.gather.Tie as tie
 
 -- what the table had for the identity
-found : (c : tie.After-units) → tableAnswer (collect (c .before .before .before .before .args .identity)) (c .before .before .before .before .args .table .slots) ≡ value (c .units .given .0 .0)
+found :
+    (c : tie.After-units)
+    → tableAnswer (collect (c .before .before .before .before .args .identity)) (c .before .before .before .before .args .table .slots)
+    ≡ value (c .units .given .0 .0)
 found c = sym (ap foundAnswer (sym (c .units .given .1)) ∙ c .before .before .find .ensures)
 
 returns : tie.Need-returns
@@ -46,7 +49,8 @@ returns-2 c = λ k o x.
 returns-3 : tie.Need-returns-3
 returns-3 c = λ k o x.
     let a = c .before .before .before .before .before .args in
-    absent (a .table .slots) (a .identity) (a .message .now) o x (c .before .n2 .given .0 .0) (sym (ap foundAnswer (sym (c .before .n2 .given .1)) ∙ c .before .before .before .find .ensures))
+    absent (a .table .slots) (a .identity) (a .message .now) o x (c .before .n2 .given .0 .0)
+    (sym (ap foundAnswer (sym (c .before .n2 .given .1)) ∙ c .before .before .before .find .ensures))
     ∙ second-alike (a .table .slots) (a .identity) (a .message .now) o x k
 
 pub gather-spec : {M : Type 1} → statement M

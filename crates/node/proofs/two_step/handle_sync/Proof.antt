@@ -26,7 +26,8 @@ returns-2 c =
     let a = c .before .before .before .before .before .before .before .before .before .before .before .before .before .before .args in
     let t = a .table .slots in
     let d = twoStepCall (a .message .now) (a .output .now) (a .residence) in
-    let e = ap unitsAnswer (sym (c .before .before .before .before .before .before .before .before .before .units .given .1)) ∙ c .before .before .before .before .before .before .before .before .before .before .before .accept .ensures in
+    let e = ap unitsAnswer (sym (c .before .before .before .before .before .before .before .before .before .units .given .1))
+    ∙ c .before .before .before .before .before .before .before .before .before .before .before .accept .ensures in
     ap (λ (y : Reply). record { reply = y; slots = t }) (c .before .before .before .before .create .ensures)
     ∙ ap (λ (y : Answer ℕ). record { reply = create d y; slots = t }) e
     ∙ ap (λ (b : Bool). callBy t d (sync (a .identity) b)) (sym (c .before .before .before .before .before .before .before .if1 .left))

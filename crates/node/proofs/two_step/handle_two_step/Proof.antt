@@ -20,14 +20,16 @@ returns c =
     let a = c .before .before .before .before .before .before .before .before .before .before .before .before .before .before .args in
     c .before .before .before .before .handle-sync .ensures
     ∙ ap (callBy (a .table .slots) (twoStepCall (a .message .now) (a .output .now) (a .residence)))
-    (ap kindAnswer (sym (c .before .before .before .before .before .before .before .before .identity .given .1)) ∙ c .before .before .before .before .before .before .before .before .before .before .classify .ensures)
+    (ap kindAnswer (sym (c .before .before .before .before .before .before .before .before .identity .given .1))
+    ∙ c .before .before .before .before .before .before .before .before .before .before .classify .ensures)
 
 returns-2 : tie.Need-returns-2
 returns-2 c =
     let a = c .before .before .before .before .before .before .before .before .before .before .before .args in
     c .before .before .gather .ensures Sync (a .output .now) (a .residence)
     ∙ ap (callBy (a .table .slots) (twoStepCall (a .message .now) (a .output .now) (a .residence)))
-    (ap kindAnswer (sym (c .before .before .before .before .before .identity2 .given .1)) ∙ c .before .before .before .before .before .before .before .classify .ensures)
+    (ap kindAnswer (sym (c .before .before .before .before .before .identity2 .given .1))
+    ∙ c .before .before .before .before .before .before .before .classify .ensures)
 
 returns-3 : tie.Need-returns-3
 returns-3 c =
@@ -41,7 +43,8 @@ returns-4 c =
     let a = c .before .before .before .before .before .before .before .before .before .before .before .args in
     c .before .before .gather2 .ensures Delay (a .output .now) (a .residence)
     ∙ ap (callBy (a .table .slots) (twoStepCall (a .message .now) (a .output .now) (a .residence)))
-    (ap kindAnswer (sym (c .before .before .before .before .before .identity4 .given .1)) ∙ c .before .before .before .before .before .before .before .classify .ensures)
+    (ap kindAnswer (sym (c .before .before .before .before .before .identity4 .given .1))
+    ∙ c .before .before .before .before .before .before .before .classify .ensures)
 
 returns-5 : tie.Need-returns-5
 returns-5 c =
