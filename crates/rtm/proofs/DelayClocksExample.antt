@@ -1,9 +1,8 @@
 -- The sum and the rounding can be met by a Delay_Req and its Delay_Resp with stamps of both formats: 1,500 ns at a one-step node with PTP
 -- stamps and an NTP difference of 1 at a two-step node, and back in reverse.
 -- Assumes nothing.
-use Prim.Native.Nat.{ℕ, _+_, _*_, _<_, _≤_}
+use Prim.Native.Nat.{_+_, _*_, _<_, _≤_}
 use mathlib.Core.Path.{_≡_, refl}
-use mathlib.Core.Bool.{false}
 use mathlib.Core.List.{List, [], _∷_, List·Permᴰ, List·Permᴰ·swap, map}
 use mathlib.Core.Logic.{inl, inr}
 use mathlib.Core.Option.{some}

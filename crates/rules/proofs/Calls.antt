@@ -18,10 +18,10 @@ use Rattle.message.proofs.Sound.{SoundPtp}
 use Rattle.records.specs.declared.RecordKind.{RecordKind}
 use Rattle.records.specs.declared.RecordKind.the-variants.{Sync, Delay}
 use Rattle.records.specs.declared.Identity.{Identity}
-use Rattle.records.specs.Node.{Request, add, collect}
+use Rattle.records.specs.Node.{add, collect}
 use Rattle.scratch_pad.specs.Sum.{inRange}
 use Rattle.rules.specs.Change.{padOf, withTwoStep, followUpOf}
-use Rattle.rules.specs.Rules.{Kind, sync, followUp, delayReq, firstOf, secondOf, kindOf, kindIdentity, Mode, oneStep, twoStep, Call, Word, updated, created, waiting, added, Reply, summed, addToPad, asItCame, update, oneStepReply, createIn, create, keep, gather, twoStepReply, replyBy, keepRequest, twoStepRequest, requestBy, passed, rules}
+use Rattle.rules.specs.Rules.{Kind, sync, followUp, firstOf, secondOf, kindOf, kindIdentity, Mode, oneStep, twoStep, Call, Word, updated, created, waiting, added, Reply, summed, addToPad, asItCame, update, oneStepReply, createIn, create, keep, gather, twoStepReply, replyBy, keepRequest, twoStepRequest, requestBy, passed, rules}
 use Rattle.rules.specs.Path.{First, of-sync, of-delay, unitsOf}
 use Rattle.rules.proofs.Bearing.{Bears, sync-kind, follow-up-kind, sound-ptp, is-sync}
 use Rattle.rules.proofs.Changes.{with-pad-pad, with-pad-kind, with-two-step-bears, with-two-step-pad, follow-up-length, follow-up-pad, follow-up-bears}

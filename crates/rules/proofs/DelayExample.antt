@@ -15,7 +15,7 @@ use Rattle.refusal.specs.Answer.{value, refused}
 use Rattle.residence.specs.declared.Residence.the-variants.{InvalidStamp}
 use Rattle.records.specs.declared.RecordKind.the-variants.{Delay}
 use Rattle.records.specs.declared.Identity.{Identity}
-use Rattle.records.specs.Slots.{Slots, same, holds, zeros, find}
+use Rattle.records.specs.Slots.{same, holds, zeros, find}
 use Rattle.records.specs.Node.{Event, tick, call, switchover, told, replied, taken-over, run, final}
 use Rattle.image.specs.Image.{sound, ofSync, differ, imageOf}
 use Rattle.rules.specs.Change.{padOf}

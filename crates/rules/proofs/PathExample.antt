@@ -2,22 +2,22 @@
 -- switchovers, rubbish and doubled records at its nodes.
 -- Assumes nothing.
 use Prim.Native.Nat.{ℕ, _*_}
-use mathlib.Core.Path.{_≡_, refl, sym, ap, _∙_}
-use mathlib.Core.Bool.{Bool, true, false, true≢false}
+use mathlib.Core.Path.{_≡_, refl}
+use mathlib.Core.Bool.{Bool, true, false}
 use mathlib.Core.List.{List, [], _∷_, _++_, List·Permᴰ·nil, List·Permᴰ·cons}
-use mathlib.Core.Logic.{_⊎_, inl, inr}
-use mathlib.Core.Option.{Option, none, some}
+use mathlib.Core.Logic.{inl, inr}
+use mathlib.Core.Option.{none, some}
 use native.Mathlib.Omega.{arith}
 use lib.IntN.{pos, _+ℤ_}
 use lib.ListN.{take, drop, replicate, getElem?}
 use Rattle.refusal.specs.Answer.{Answer, value, refused}
 use Rattle.residence.specs.declared.Residence.the-variants.{InvalidStamp}
 use Rattle.records.specs.declared.Identity.{Identity}
-use Rattle.records.specs.Slots.{Slots, same, holds, zeros, lowest, find}
-use Rattle.records.specs.Node.{Event, tick, call, switchover, Result, told, replied, taken-over, run, final}
+use Rattle.records.specs.Slots.{Slots, same, holds, zeros, lowest}
+use Rattle.records.specs.Node.{tick, call, switchover, Result, told, replied, taken-over, run, final}
 use Rattle.image.specs.Image.{sound, ofSync, differ}
 use Rattle.rules.specs.Change.{padOf}
-use Rattle.rules.specs.Rules.{kindOf, kindIdentity, oneStep, twoStep, Call, Word, addToPad, updated, passed, created, waiting, added, rules}
+use Rattle.rules.specs.Rules.{oneStep, twoStep, Call, Word, addToPad, updated, passed, created, waiting, added, rules}
 use Rattle.rules.specs.Path.{Stop, Apart, Every, FirstWay, SecondWay, FollowUps, born, residences}
 use Rattle.rules.specs.Demand3.{Waiting}
 use Rattle.rules.proofs.Laws.{added-in-time}

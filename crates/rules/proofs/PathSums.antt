@@ -13,7 +13,7 @@ use Rattle.records.specs.declared.RecordKind.{RecordKind}
 use Rattle.records.specs.declared.RecordKind.the-variants.{Sync, Delay}
 use Rattle.records.specs.declared.Identity.{Identity}
 use Rattle.rules.specs.Change.{padOf}
-use Rattle.rules.specs.Rules.{sync, followUp, firstOf, secondOf, kindOf, Mode, oneStep, twoStep, Word, created, Reply}
+use Rattle.rules.specs.Rules.{sync, firstOf, secondOf, kindOf, Mode, oneStep, twoStep, Word, created, Reply}
 use Rattle.rules.specs.Path.{Stop, ReplyAt, Visit, Apart, Every, of-sync, FirstWay, SecondWay, FollowUps, existing, born, never, residenceAt, residences}
 use Rattle.rules.specs.Demand3.{PathSum, DelayPathSum}
 use Rattle.rules.proofs.Crossing.{Grown, grown-none, grown-more, onFirst, onSecond, first-at-one, first-at-two, sync-creates, Ready, first-at, second-at}

@@ -3,7 +3,7 @@
 -- Assumes nothing.
 use Prim.Native.Nat.{ℕ, zero, suc}
 use mathlib.Core.Path.{_≡_, refl}
-use mathlib.Core.Bool.{Bool, true, false, _&&_, and-eq-true-iff}
+use mathlib.Core.Bool.{Bool, true, _&&_, and-eq-true-iff}
 use mathlib.Core.List.{List, [], _∷_}
 use native.Mathlib.Omega.{arith}
 use borrow.Author.Tests.{ltb-true}
@@ -19,7 +19,7 @@ use Rattle.image.specs.Image.{sound, ofSync, differ, imageOf}
 use Rattle.rules.specs.Rules.{twoStep, Call, rules}
 use Rattle.rules.specs.Service.{new, InOctets}
 use Rattle.rules.proofs.Serves.{always-written}
-use Rattle.rules.proofs.Samples.{numbered, octetsOf, stayed, handedIn, Each, each}
+use Rattle.rules.proofs.Samples.{numbered, octetsOf, stayed, handedIn, each}
 
 -- a message of this PTPType with S set
 abbrev ofType : ℕ → List ℕ

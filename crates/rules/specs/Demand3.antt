@@ -3,7 +3,7 @@
 -- reads a loaded table as the one written"). A list without any is one of these lists.
 use Prim.Native.Nat.{ℕ, _+_, _<_, _≤_}
 use mathlib.Core.Path.{_≡_}
-use mathlib.Core.Bool.{Bool, true}
+use mathlib.Core.Bool.{Bool}
 use mathlib.Core.List.{List, List·Permᴰ}
 use mathlib.Core.Option.{none, some}
 use lib.IntN.{ℤ, pos, _+ℤ_}
