@@ -3,10 +3,9 @@
 -- Assumes nothing.
 use Prim.Native.Nat.{ℕ}
 use mathlib.Core.Path.{_≡_, refl, sym, ap, _∙_}
-use mathlib.Core.Bool.{Bool, true, false}
+use mathlib.Core.Bool.{Bool, true, false, true≢false}
 use mathlib.Core.List.{List}
-use mathlib.Core.Option.{Option, none, some}
-use native.Mathlib.Omega.{arith}
+use mathlib.Core.Option.{Option, none, some, Option·none-ne-some}
 use lib.ListN.{getElem?, take}
 use Rattle.refusal.specs.Answer.{Answer, value, refused}
 use Rattle.refusal.proofs.Answers.{not-both}
@@ -17,7 +16,7 @@ use Rattle.records.specs.declared.RecordKind.the-variants.{Sync, Delay}
 use Rattle.records.specs.declared.Identity.{Identity}
 use Rattle.records.specs.declared.Record.{Record}
 use Rattle.records.specs.Slots.{Slots, find, vacant, addAnswer, collectAnswer}
-use Rattle.records.specs.Node.{Request, add, collect, tableAnswer, asked, Lawful, Event, call, replied, run, final}
+use Rattle.records.specs.Node.{Request, nothing, add, collect, tableAnswer, asked, Lawful, Event, call, replied, run, final}
 use Rattle.records.specs.Ageing.{Waits}
 use Rattle.records.proofs.Orders.{order-free}
 use Rattle.records.proofs.Alone.{result-at, found-in-time, gone-at-third}
@@ -29,11 +28,11 @@ use Rattle.rules.proofs.Calls.{reply-is, request-is, first-keeps, first
 -- a call asks only for the record of its own identity
 own-kept : (p q : Identity) (a : Answer ℕ) → asked (keepRequest p a) ≡ some q → some p ≡ some q
 own-kept p q (value u) h = h
-own-kept p q (refused n) h = absurd (let z : _≡_ {A = ℕ} 0 1 = cc in omega arith)
+own-kept p q (refused n) h = absurd (Option·none-ne-some q h)
 
 pub own : (m : Mode) (r : Residence) (k : Kind) (q : Identity) → asked (requestBy m r k) ≡ some q → kindIdentity k ≡ some q
-own oneStep r k q e = absurd (let z : _≡_ {A = ℕ} 0 1 = cc in omega arith)
-own twoStep r (sync p false) q e = absurd (let z : _≡_ {A = ℕ} 0 1 = cc in omega arith)
+own oneStep r k q e = absurd (Option·none-ne-some q e)
+own twoStep r (sync p false) q e = absurd (Option·none-ne-some q e)
 own twoStep r (sync p true) q e = own-kept p q (acceptedOf r) e
 own twoStep r (delayReq p) q e = own-kept p q (acceptedOf r) e
 own twoStep r (followUp p) q e = e
@@ -42,24 +41,33 @@ own twoStep r timed q e = e
 own twoStep r untimed q e = e
 own twoStep r (unreadable n) q e = e
 
+-- a call that asks for no record to be added
+abbrev adds : Request → Bool
+adds nothing = false
+adds (add q u) = true
+adds (collect q) = false
+
+no-add : {A : Type 0} {a : Request} {q : Identity} {u : ℕ} → adds a ≡ false → a ≡ add q u → A
+no-add f e = absurd (true≢false (sym (ap adds e) ∙ f))
+
 -- only a two-step node's Sync with S set, or Delay_Req, asks for a record to be added, with the residence that was accepted
 add-kept : (p q : Identity) (u : ℕ) (a : Answer ℕ) → keepRequest p a ≡ add q u → (p ≡ q) × (a ≡ value u)
 add-kept p q u (value v) h = (cc, cc)
-add-kept p q u (refused n) h = absurd (let z : _≡_ {A = ℕ} 0 1 = cc in omega arith)
+add-kept p q u (refused n) h = no-add refl h
 
 pub asks-add :
     (m : Mode) (r : Residence) (k : Kind) (q : Identity) (u : ℕ)
     → requestBy m r k ≡ add q u
     → (x : RecordKind) × (m ≡ twoStep) × (k ≡ firstOf x q) × (acceptedOf r ≡ value u)
-asks-add oneStep r k q u e = absurd (let z : _≡_ {A = ℕ} 0 1 = cc in omega arith)
-asks-add twoStep r (sync p false) q u e = absurd (let z : _≡_ {A = ℕ} 0 1 = cc in omega arith)
+asks-add oneStep r k q u e = no-add refl e
+asks-add twoStep r (sync p false) q u e = no-add refl e
 asks-add twoStep r (sync p true) q u e = let a = add-kept p q u (acceptedOf r) e in (Sync, refl, ap (λ (i : Identity). sync i true) (a .0), a .1)
 asks-add twoStep r (delayReq p) q u e = let a = add-kept p q u (acceptedOf r) e in (Delay, refl, ap delayReq (a .0), a .1)
-asks-add twoStep r (followUp p) q u e = absurd (let z : _≡_ {A = ℕ} 0 1 = cc in omega arith)
-asks-add twoStep r (delayResp p) q u e = absurd (let z : _≡_ {A = ℕ} 0 1 = cc in omega arith)
-asks-add twoStep r timed q u e = absurd (let z : _≡_ {A = ℕ} 0 1 = cc in omega arith)
-asks-add twoStep r untimed q u e = absurd (let z : _≡_ {A = ℕ} 0 1 = cc in omega arith)
-asks-add twoStep r (unreadable n) q u e = absurd (let z : _≡_ {A = ℕ} 0 1 = cc in omega arith)
+asks-add twoStep r (followUp p) q u e = no-add refl e
+asks-add twoStep r (delayResp p) q u e = no-add refl e
+asks-add twoStep r timed q u e = no-add refl e
+asks-add twoStep r untimed q u e = no-add refl e
+asks-add twoStep r (unreadable n) q u e = no-add refl e
 
 -- and it answers 14 where it is told that no slot is empty
 want : (m : Mode) (c : Call) (k : Kind) (q : Identity) (u : ℕ) → requestBy m (c .residence) k ≡ add q u → replyBy m c (refused 14) k .answer ≡ refused 14
