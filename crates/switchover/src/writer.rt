@@ -9,7 +9,8 @@ ghost use Rattle.image.specs.Image.{writeOf};
 ghost use Rattle.refusal.specs.Written.{written};
 
 // Writes the image of these slots at the start of the output, which stays as it came beyond the
-// size and on refusal. Refusal 22 for records that could not be loaded, then 12.
+// size and on refusal. Refusal 22 for records that could not be loaded, those of kind Delay among
+// them (document 02, W-204), then 12.
 pub fn write(slots: [Record; 16], out: &mut [u8]) -> Written
     ensures { λ r. ⌜ written r (now (out .exit)) ≡ writeOf slots (now (out .entry)) ⌝ }
 {

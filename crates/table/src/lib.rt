@@ -209,7 +209,8 @@ impl Table {
     }
 
     // Writes the image of this table at the start of the output, which stays as it came beyond the
-    // size and on refusal. Only records count. Refusal 22 where they could not be loaded, then 12.
+    // size and on refusal. Only records count. Refusal 22 where they could not be loaded, or where
+    // one is of kind Delay, then 12.
     pub fn write(self, out: &mut [u8]) -> Written
         ensures { λ r. ⌜ written r (now (out .exit)) ≡ writeOf (slotsOf self) (now (out .entry)) ⌝ }
     {
@@ -217,8 +218,8 @@ impl Table {
         switchover::write(slots, out)
     }
 
-    // The table that an image loads: its records from slot 0 on, in its order, and zeros. Refusal
-    // 22 for any other octets, with the table that came.
+    // The table that an image loads: its records, of kind Sync, from slot 0 on, in its order, and
+    // zeros. Refusal 22 for any other octets, with the table that came.
     pub fn load(self, octets: &[u8]) -> Reloaded
         ensures { λ r. ⌜ reloaded r ≡ loadInto (now (octets .entry)) (slotsOf self) ⌝ }
     {
