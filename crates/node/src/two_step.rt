@@ -100,7 +100,7 @@ fn handle_sync(
 
 // A Delay_Req, whatever its S bit: refusals 9 and 10, or its residence waits. Whatever message and
 // output the call has, they stay.
-fn handle_delay(table: Table, residence: Residence, identity: Identity) -> Done
+fn handle_delay_req(table: Table, residence: Residence, identity: Identity) -> Done
     ensures { λ r. ⌜
         ((m o : List ℕ) → done r m o ≡ callBy (slotsOf table) (twoStepCall m o residence) (delayReq identity))
         ⌝ }
@@ -164,7 +164,7 @@ pub fn handle_two_step(
             handle_sync(table, message, output, residence, identity, flag)
         }
         Handling::FollowUp(identity) => gather(table, message, identity),
-        Handling::DelayReq(identity) => handle_delay(table, residence, identity),
+        Handling::DelayReq(identity) => handle_delay_req(table, residence, identity),
         Handling::DelayResp(identity) => gather(table, message, identity),
         Handling::Timed => Done {
             table,

@@ -16,7 +16,7 @@ use Rattle.stamp.specs.Rounding.{exact}
 use Rattle.records.specs.Slots.{Slots, same, holds, zeros}
 use Rattle.records.specs.Node.{tick, call}
 use Rattle.rules.specs.Change.{padOf}
-use Rattle.rules.specs.Rules.{sync, Mode, oneStep, twoStep, updated, created, waiting, added}
+use Rattle.rules.specs.Rules.{Mode, oneStep, twoStep, updated, created, waiting, added}
 use Rattle.rules.specs.Path.{Apart, Every, of-sync, FirstWay, SecondWay, FollowUps, born}
 use Rattle.rules.proofs.Samples.{octetsOf, spare, after, visit, other, apart}
 use Rattle.rules.proofs.PathExample.{mine, theirs, aSync, aFollowUp}
@@ -121,7 +121,7 @@ in-numbers = sum
 rounded :
     (total units (firstStamps path) * 65536 ≤ total exact (firstStamps path))
     × (total exact (firstStamps path) < (total units (firstStamps path) + 2) * 65536)
-rounded = path-rounded-down mine (sync mine false) (aSync false 0) (aSync true 98304000) path 2 (of-sync false) refl sync-way refl (omega arith)
+rounded = path-rounded-down mine (aSync false 0) (aSync true 98304000) path 2 (of-sync false) sync-way refl (omega arith)
 
 exactly : total exact (firstStamps path) ≡ total units (firstStamps path) * 65536 + 75776
 exactly = refl

@@ -12,7 +12,7 @@ use Rattle.stamp.specs.Rounding.{exact}
 use Rattle.records.specs.Slots.{same, holds}
 use Rattle.records.specs.Node.{tick, call}
 use Rattle.rules.specs.Change.{padOf}
-use Rattle.rules.specs.Rules.{delayReq, oneStep, twoStep, updated, passed, waiting, added}
+use Rattle.rules.specs.Rules.{oneStep, twoStep, updated, passed, waiting, added}
 use Rattle.rules.specs.Path.{Apart, Every, of-delay, FirstWay, SecondWay}
 use Rattle.rules.proofs.Samples.{spare, visit, apart}
 use Rattle.rules.proofs.DelayExample.{mine, request, response}
@@ -82,7 +82,7 @@ in-numbers = sum
 rounded :
     (total units (firstStamps path) * 65536 ≤ total exact (firstStamps path))
     × (total exact (firstStamps path) < (total units (firstStamps path) + 1) * 65536)
-rounded = path-rounded-down mine (delayReq mine) (request (pos 0)) (request (pos 98304000)) path 1 of-delay refl there refl (omega arith)
+rounded = path-rounded-down mine (request (pos 0)) (request (pos 98304000)) path 1 of-delay there refl (omega arith)
 
 exactly : total exact (firstStamps path) ≡ total units (firstStamps path) * 65536 + 51712
 exactly = refl

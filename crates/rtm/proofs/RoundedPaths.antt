@@ -120,4 +120,4 @@ module _ (q : Identity) where
       rw (x .2) (within-more (x .0) (x .1) (firstStamps ns) (x .3) (all-within ns (y .1) (y .2) w))
 
 pub path-rounded-down : PathRoundedDown
-path-rounded-down q k start last path n f e w t h = let x = all-within q path f e w in (x .0, omega (arith, x .1, t, h))
+path-rounded-down q start last path n f w t h = let x = all-within q path f refl w in (x .0, omega (arith, x .1, t, h))

@@ -6,7 +6,7 @@ use Rattle.stamp.specs.declared.stamps.Stamps.{Stamps}
 use Rattle.stamp.specs.declared.stamps.Stamps.the-variants.{Ptp, Ntp}
 use Rattle.stamp.specs.Rounding.{exact}
 use Rattle.records.specs.declared.Identity.{Identity}
-use Rattle.rules.specs.Rules.{Kind, kindOf}
+use Rattle.rules.specs.Rules.{kindOf}
 use Rattle.rules.specs.Path.{First, FirstWay}
 use Rattle.rtm.specs.Stamped.{StampedStop, asStop, firstStamps, total, units}
 
@@ -20,9 +20,8 @@ ntpNode (Ntp entry exit) = 1
 -- ones, and not above it.
 abbrev pub PathRoundedDown : Type 0
 PathRoundedDown =
-    (q : Identity) (k : Kind) (start last : List ℕ) (path : List StampedStop) (n : ℕ)
-    → First q k
-    → kindOf start ≡ k
+    (q : Identity) (start last : List ℕ) (path : List StampedStop) (n : ℕ)
+    → First q (kindOf start)
     → FirstWay start (map asStop path) last
     → total ntpNode (firstStamps path) ≡ n
     → 0 < n

@@ -34,7 +34,7 @@ returns-2 c =
 returns-3 : tie.Need-returns-3
 returns-3 c =
     let a = c .before .before .before .before .before .before .before .before .args in
-    c .handle-delay .ensures (a .message .now) (a .output .now)
+    c .handle-delay-req .ensures (a .message .now) (a .output .now)
     ∙ ap (callBy (a .table .slots) (twoStepCall (a .message .now) (a .output .now) (a .residence)))
     (ap kindAnswer (sym (c .before .before .identity3 .given .1)) ∙ c .before .before .before .before .classify .ensures)
 

@@ -1,4 +1,4 @@
--- `handle_delay` meets its contract: the residence decides first, then the table.
+-- `handle_delay_req` meets its contract: the residence decides first, then the table.
 -- Assumes nothing.
 use mathlib.Core.Path.{sym, ap, _∙_}
 use mathlib.Core.Bool.{true}
@@ -6,8 +6,8 @@ use Rattle.records.specs.declared.RecordKind.the-variants.{Delay}
 use Rattle.node.specs.Answers.{unitsAnswer}
 use Rattle.node.proofs.Replies.{first-alike, no-residence}
 use borrow.Author.Needs.{needs}
-use Rattle.node.proofs.two_step.handle_delay.Statement.{statement}
-use Rattle.node.proofs.two_step.handle_delay.Tie as tie
+use Rattle.node.proofs.two_step.handle_delay_req.Statement.{statement}
+use Rattle.node.proofs.two_step.handle_delay_req.Tie as tie
 
 returns : tie.Need-returns
 returns c = λ m o.
@@ -22,8 +22,8 @@ returns-2 c = λ m o.
     no-residence (a .table .slots) (a .identity) true m o (a .residence) (c .before .n .given .0 .0) (sym e)
     ∙ first-alike (a .table .slots) (a .identity) m o (a .residence) Delay
 
-pub handle-delay-spec : {M : Type 1} → statement M
-handle-delay-spec =
+pub handle-delay-req-spec : {M : Type 1} → statement M
+handle-delay-req-spec =
     tie.close
     (tie.spec
     (λ c κs. search needs) (λ c. search needs) (λ c κs. search needs) (λ c. search needs)
