@@ -44,22 +44,24 @@ fn exchange() {
 }
 
 fn request(table: Table, identity: u16) -> Table {
-    print::number(b", Delay_Req ", identity as u64);
-    print::text(b" ");
-    waits::hand(
+    let fields = waits::fields(types::PTP_IPV4, types::DELAY_REQ, identity);
+    waits::tell(
         table,
-        waits::fields(types::PTP_IPV4, types::DELAY_REQ, identity),
+        b", Delay_Req ",
+        identity,
+        fields,
         Residence::Units(5),
     )
 }
 
 // A Delay_Resp, whose residence is not looked at.
 fn response(table: Table, identity: u16) -> Table {
-    print::number(b", Delay_Resp ", identity as u64);
-    print::text(b" ");
-    waits::hand(
+    let fields = waits::fields(types::PTP_IPV4, types::DELAY_RESP, identity);
+    waits::tell(
         table,
-        waits::fields(types::PTP_IPV4, types::DELAY_RESP, identity),
+        b", Delay_Resp ",
+        identity,
+        fields,
         Residence::InvalidStamp,
     )
 }

@@ -52,23 +52,32 @@ pub(crate) fn hand(table: Table, fields: Fields, residence: Residence) -> Table 
     done.table
 }
 
-pub(crate) fn sync(table: Table, identity: u16) -> Table {
-    print::number(b", Sync ", identity as u64);
+// Names a message by its word and its identity, and hands it to the node.
+pub(crate) fn tell(
+    table: Table,
+    word: &[u8],
+    identity: u16,
+    fields: Fields,
+    residence: Residence,
+) -> Table {
+    print::number(word, identity as u64);
     print::text(b" ");
-    hand(
-        table,
-        fields(types::PTP_IPV4, types::SYNC, identity),
-        Residence::Units(9),
-    )
+    hand(table, fields, residence)
+}
+
+pub(crate) fn sync(table: Table, identity: u16) -> Table {
+    let fields = fields(types::PTP_IPV4, types::SYNC, identity);
+    tell(table, b", Sync ", identity, fields, Residence::Units(9))
 }
 
 // A Follow_Up, whose residence is not looked at.
 pub(crate) fn follow_up(table: Table, message_type: u16, identity: u16) -> Table {
-    print::number(b", Follow_Up ", identity as u64);
-    print::text(b" ");
-    hand(
+    let fields = fields(message_type, types::FOLLOW_UP, identity);
+    tell(
         table,
-        fields(message_type, types::FOLLOW_UP, identity),
+        b", Follow_Up ",
+        identity,
+        fields,
         Residence::InvalidStamp,
     )
 }
