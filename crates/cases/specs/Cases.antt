@@ -1,4 +1,5 @@
--- "Cases marked ● are the set for proof, one table and a single claim over its rows." (document 01, Numbers to check against)
+-- "Cases marked ● are the set for proof, one table and a single claim over its rows." (document 01, Numbers to check against); "the case of
+-- 2^63-1 and 1 ns now gives 2^63-1" (document 02, W-205)
 use Prim.Native.Nat.{ℕ}
 use mathlib.Core.Path.{_≡_}
 use mathlib.Core.List.{List, [], _∷_, _++_, map}
@@ -8,6 +9,7 @@ use Rattle.refusal.specs.Answer.{Answer, value, refused}
 use Rattle.stamp.specs.declared.ptp.Stamp.{Stamp}
 use Rattle.stamp.specs.declared.stamps.Stamps.the-variants.{Ptp}
 use Rattle.stamp.specs.Ptp.{nanosecondsOf, residenceOf}
+use Rattle.scratch_pad.specs.Sum.{largest}
 use Rattle.message.specs.Read.{Message, plain, readOf}
 use Rattle.message.specs.Write.{plainOctets}
 use Rattle.records.specs.Slots.{Slots, zeros}
@@ -76,10 +78,6 @@ pub record Row : Type 0 where
 abbrev row : Question → Wanted → Row
 row q w = record { question = q; wanted = w }
 
--- 2^63-1
-abbrev largest : ℤ
-largest = pos 9223372036854775807
-
 -- `10 00 00 0F`, eight zeros, `00 01 00 00`, with its first two octets
 abbrev typeOne : ℕ → ℕ → List ℕ
 typeOne a b = a ∷ b ∷ 0x00 ∷ 0x0F ∷ 0 ∷ 0 ∷ 0 ∷ 0 ∷ 0 ∷ 0 ∷ 0 ∷ 0 ∷ 0x00 ∷ 0x01 ∷ 0x00 ∷ 0x00 ∷ []
@@ -102,7 +100,7 @@ rows =
     ∷ row (between (at 5 0) (at 6 1000000000)) (time (refused 9) (refused 9))
     ∷ row (padAfter (negsuc 98303) 1) (pad (value updated) (negsuc 32767))
     ∷ row (padAfter largest 0) (pad (value updated) largest)
-    ∷ row (padAfter largest 1) (pad (refused 11) largest)
+    ∷ row (padAfter largest 1) (pad (value updated) largest)
     ∷ row (reads (typeOne 0x10 0x00)) (fields (value (plain (record { «message_type» = 1; pad = pos 0 }))))
     ∷ row (reads (typeOne 0x10 0xFF)) (fields (value (plain (record { «message_type» = 1; pad = pos 0 }))))
     ∷ row (reads (take 15 (typeOne 0x10 0x00))) (fields (refused 1))

@@ -8,7 +8,7 @@ use Rattle.refusal.specs.Answer.{Answer, value, refused, refuse, andThen}
 use Rattle.message.specs.declared.fields.Header.{Header}
 use Rattle.message.specs.declared.fields.SubTlv.{SubTlv}
 use Rattle.message.specs.Read.{Message, plain, ptp, readOf, carriedOf}
-use Rattle.scratch_pad.specs.Sum.{sumOf}
+use Rattle.scratch_pad.specs.Sum.{padSum}
 use Rattle.egress.specs.declared.Joined.{Joined}
 use Rattle.egress.specs.declared.Joined.the-variants.{Total, Refused}
 
@@ -27,9 +27,9 @@ abbrev pub padIn : Message → ℤ
 padIn (plain h) = h .pad
 padIn (ptp h t) = h .pad
 
--- "The total is the sum of the pads.": the Sync's 1 to 8, the Follow_Up's 1 to 8, 18, 11
+-- "The total is the sum of the pads.", 2^63-1 where that is too big (document 02, W-205): the Sync's 1 to 8, the Follow_Up's 1 to 8, 18, 11
 abbrev pub joinBy : Answer Message → Answer Message → Answer ℤ
-joinBy a b = andThen a (λ s. andThen b (λ f. refuse 18 (not (isPair s f)) (sumOf (padIn s) (padIn f))))
+joinBy a b = andThen a (λ s. andThen b (λ f. refuse 18 (not (isPair s f)) (padSum (padIn s) (padIn f))))
 
 abbrev pub joinOf : List ℕ → List ℕ → Answer ℤ
 joinOf s f = joinBy (readOf s) (readOf f)

@@ -68,7 +68,8 @@ fn join_to(h: Header, t: SubTlv, follow_up: Reading) -> Joined
     }
 }
 
-// The total of the two pads: the Sync's refusals 1 to 8, the Follow_Up's 1 to 8, 18, 11.
+// The total of the two pads, the largest pad where that is too big: the Sync's refusals 1 to 8, the
+// Follow_Up's 1 to 8, 18, and 11 where the sum is below the range.
 pub fn join(sync: &[u8], follow_up: &[u8]) -> Joined
     ensures { λ r. ⌜ joinAnswer r ≡ joinOf (now (sync .entry)) (now («follow_up» .entry)) ⌝ }
 {

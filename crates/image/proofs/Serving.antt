@@ -250,25 +250,21 @@ serving-removed q t v =
 
 -- a request, where a record that it adds is sound
 pub serving-request :
-    (commits : ℕ → Bool) (a : Request) (t : Slots)
+    (a : Request) (t : Slots)
     → ((q : Identity) (u : ℕ) → a ≡ add q u → sound (fresh q u) ≡ true)
     → Serving t
-    → Serving (tableAfter commits a t)
-serving-request commits nothing t s v = v
-serving-request commits (add q u) t s v = go (find q t) refl (vacant t) refl
+    → Serving (tableAfter a t)
+serving-request nothing t s v = v
+serving-request (add q u) t s v = go (find q t) refl (vacant t) refl
   where
     go : (o : Option Record) → find q t ≡ o → (b : Bool) → vacant t ≡ b → Serving (addLeaves q u t (addAnswer o b))
     go (some r) e b f = v
     go none e false f = v
     go none e true f = serving-added q u t (s q u refl) e f v
-serving-request commits (collect q) t s v = go (tableAnswer (collect q) t)
+serving-request (collect q) t s v = go (tableAnswer (collect q) t)
   where
-    taken : (b : Bool) → Serving (cond b (removeFrom q t) t)
-    taken true = serving-removed q t v
-    taken false = v
-
-    go : (a : Answer ℕ) → Serving (collectLeaves commits q t a)
-    go (value u) = taken (commits u)
+    go : (a : Answer ℕ) → Serving (collectLeaves q t a)
+    go (value u) = serving-removed q t v
     go (refused n) = v
 
 -- a switchover, or none where the table cannot be written

@@ -6,7 +6,6 @@ use crate::change;
 use crate::kind;
 use crate::kind::Handling;
 use residence::Residence;
-use scratch_pad::Sum;
 ghost use mathlib.Core.Path.{_≡_};
 ghost use Prim.Native.Nat.{ℕ};
 ghost use mathlib.Core.List.{List};
@@ -16,22 +15,22 @@ ghost use Rattle.residence.specs.Residence.{acceptedOf};
 ghost use Rattle.node.specs.Answers.{replied, doneAlone};
 ghost use Rattle.node.specs.Calls.{oneStepCall};
 
-// Adds the residence: refusals 9, 10 and 11.
+// Adds the residence: refusals 9 and 10.
 fn update_pad(message: &mut [u8], residence: Residence) -> Answer
     ensures { λ r. ⌜ ((o : List ℕ) → replied r (now (message .exit)) o ≡ update (oneStepCall (now (message .entry)) o residence) (acceptedOf residence)) ⌝ }
 {
     match answer::accept(residence) {
-        Accepted::Units(units) => match change::add_to_pad(message, units) {
-            Sum::Of(_) => Answer::Updated,
-            Sum::Refused(n) => Answer::Refused(n),
-        },
+        Accepted::Units(units) => {
+            change::add_to_pad(message, units);
+            Answer::Updated
+        }
         Accepted::Refused(n) => Answer::Refused(n),
     }
 }
 
 // A message at a one-step node: updated, or passed with its residence not looked at; refusals 1 to
-// 8 of reading, then 9, 10 and 11. A refusal leaves the message as it came. The call looks at no
-// output and no table, and changes none.
+// 8 of reading, then 9 and 10. A refusal leaves the message as it came. The call looks at no output
+// and no table, and changes none.
 pub fn handle_one_step(message: &mut [u8], residence: Residence) -> Answer
     ensures { λ r. ⌜
         ((t : Slots) (o : List ℕ) → doneAlone r (now (message .exit)) o t ≡ callOf t (oneStepCall (now (message .entry)) o residence))

@@ -10,7 +10,6 @@ use crate::kind::Handling;
 use message::layout;
 use records::Identity;
 use residence::Residence;
-use scratch_pad::Sum;
 use table::Entry;
 use table::Found;
 use table::Table;
@@ -114,32 +113,27 @@ fn handle_delay_req(table: Table, residence: Residence, identity: Identity) -> D
     }
 }
 
-// A Follow_Up, or a Delay_Resp: refusal 15 where no record waits for it; 11 where the sum does not
-// fit, and the record stays; or the record's residence is added and its slot emptied. S, residence
-// and output of the call are not looked at.
+// A Follow_Up, or a Delay_Resp: refusal 15 where no record waits for it; or the record's residence
+// is added and its slot emptied. S, residence and output of the call are not looked at.
 fn gather(table: Table, message: &mut [u8], identity: Identity) -> Done
     ensures { λ r. ⌜
         ((k : RecordKind) (o : List ℕ) (x : Residence)
         → done r (now (message .exit)) o ≡ callBy (slotsOf table) (twoStepCall (now (message .entry)) o x) (secondOf k identity))
         ⌝ }
 {
-    match table.find(identity) {
-        Found::Residence(units) => match change::add_to_pad(message, units) {
-            Sum::Of(_) => {
-                let taken = table.collect(identity);
-                let after = taken.table;
-                Done {
-                    table: after,
-                    answer: Answer::Added,
-                }
+    let taken = table.collect(identity);
+    let after = taken.table;
+    let found = taken.answer;
+    match found {
+        Found::Residence(units) => {
+            change::add_to_pad(message, units);
+            Done {
+                table: after,
+                answer: Answer::Added,
             }
-            Sum::Refused(n) => Done {
-                table,
-                answer: Answer::Refused(n),
-            },
-        },
+        }
         Found::Refused(n) => Done {
-            table,
+            table: after,
             answer: Answer::Refused(n),
         },
     }
@@ -147,7 +141,7 @@ fn gather(table: Table, message: &mut [u8], identity: Identity) -> Done
 
 // A message at a two-step node: created, waiting, added or passed; refusals 1 to 8 of reading, then
 // 16; for a Sync 9, 10, and 12 where S is clear or 13, 14 where set; for a Delay_Req 9, 10, 13, 14;
-// for a Follow_Up or a Delay_Resp 15, 11. A refusal leaves message, output and table as they came.
+// for a Follow_Up or a Delay_Resp 15. A refusal leaves message, output and table as they came.
 pub fn handle_two_step(
     table: Table,
     message: &mut [u8],

@@ -3,7 +3,7 @@
 -- Assumes nothing.
 use Prim.Native.Nat.{ℕ}
 use mathlib.Core.Path.{_≡_, refl, sym, ap, _∙_}
-use mathlib.Core.Bool.{Bool, true, false, cond}
+use mathlib.Core.Bool.{Bool, true, false}
 use mathlib.Core.List.{[], _∷_, tail, head?}
 use mathlib.Core.Option.{Option, none, some}
 use borrow.Author.Tests.{ltb-true}
@@ -11,27 +11,23 @@ use lib.ListN.{length}
 use Rattle.refusal.specs.Answer.{Answer, value, refused}
 use Rattle.records.specs.declared.Identity.{Identity}
 use Rattle.records.specs.declared.Record.{Record}
-use Rattle.records.specs.Slots.{Slots, empty, lowest, find, fresh, vacant, addAnswer, removeFrom, ticked}
+use Rattle.records.specs.Slots.{Slots, empty, lowest, find, fresh, vacant, addAnswer, ticked}
 use Rattle.records.specs.Node.{Request, nothing, add, collect, tableAnswer, addLeaves, collectLeaves, tableAfter, asked}
 use Rattle.records.proofs.View.{view, find-view, view-remove-own, view-remove-other, view-ticked, view-add-own, view-add-other}
 
 -- a request for another identity
 pub request-other :
-    (commits : ℕ → Bool) (a : Request) (q : Identity) (t : Slots) → (asked a ≡ some q → ⊥) → view q (tableAfter commits a t) ≡ view q t
-request-other commits nothing q t h = refl
-request-other commits (add p u) q t h = go (tableAnswer (add p u) t)
+    (a : Request) (q : Identity) (t : Slots) → (asked a ≡ some q → ⊥) → view q (tableAfter a t) ≡ view q t
+request-other nothing q t h = refl
+request-other (add p u) q t h = go (tableAnswer (add p u) t)
   where
     go : (a : Answer ℕ) → view q (addLeaves p u t a) ≡ view q t
     go (value n) = view-add-other q p u t (λ e. h (ap some (sym e)))
     go (refused n) = refl
-request-other commits (collect p) q t h = go (tableAnswer (collect p) t)
+request-other (collect p) q t h = go (tableAnswer (collect p) t)
   where
-    taken : (b : Bool) → view q (cond b (removeFrom p t) t) ≡ view q t
-    taken true = view-remove-other q p t (λ e. h (ap some (sym e)))
-    taken false = refl
-
-    go : (a : Answer ℕ) → view q (collectLeaves commits p t a) ≡ view q t
-    go (value u) = taken (commits u)
+    go : (a : Answer ℕ) → view q (collectLeaves p t a) ≡ view q t
+    go (value u) = view-remove-other q p t (λ e. h (ap some (sym e)))
     go (refused n) = refl
 
 -- two tables with the same records of the identity asked for answer alike, where neither wants a slot
@@ -60,46 +56,38 @@ viewAdd n [] = n ∷ []
 viewAdd n (r ∷ v) = r ∷ v
 
 pub view-add :
-    (commits : ℕ → Bool) (q : Identity) (u : ℕ) (t : Slots)
+    (q : Identity) (u : ℕ) (t : Slots)
     → (tableAnswer (add q u) t ≡ refused 14 → ⊥)
-    → view q (tableAfter commits (add q u) t) ≡ viewAdd (fresh q u) (view q t)
-view-add commits q u t x = go (view q t) refl
+    → view q (tableAfter (add q u) t) ≡ viewAdd (fresh q u) (view q t)
+view-add q u t x = go (view q t) refl
   where
     roomy : (b : Bool) → vacant t ≡ b → find q t ≡ none → view q t ≡ [] → view q (addLeaves q u t (addAnswer none b)) ≡ fresh q u ∷ []
     roomy true f e v = view-add-own q u t (ltb-true (lowest empty t) (length t) f) v
     roomy false f e v = absurd (x (rw (e, f)))
 
-    go : (v : Slots) → view q t ≡ v → view q (tableAfter commits (add q u) t) ≡ viewAdd (fresh q u) v
+    go : (v : Slots) → view q t ≡ v → view q (tableAfter (add q u) t) ≡ viewAdd (fresh q u) v
     go [] e =
         let f : find q t ≡ none = find-view q t ∙ ap head? e in
         rw f (roomy (vacant t) refl f e)
     go (r ∷ v) e = rw (find-view q t ∙ ap head? e) e
 
-abbrev viewCollect : (ℕ → Bool) → Slots → Slots
-viewCollect commits [] = []
-viewCollect commits (r ∷ v) = cond (commits (r .residence)) v (r ∷ v)
-
-view-collect : (commits : ℕ → Bool) (q : Identity) (t : Slots) → view q (tableAfter commits (collect q) t) ≡ viewCollect commits (view q t)
-view-collect commits q t = go (view q t) refl
+view-collect : (q : Identity) (t : Slots) → view q (tableAfter (collect q) t) ≡ tail (view q t)
+view-collect q t = go (view q t) refl
   where
-    taken : (b : Bool) (r : Record) (v : Slots) → view q t ≡ r ∷ v → view q (cond b (removeFrom q t) t) ≡ cond b v (r ∷ v)
-    taken true r v e = view-remove-own q t ∙ ap tail e
-    taken false r v e = e
-
-    go : (v : Slots) → view q t ≡ v → view q (tableAfter commits (collect q) t) ≡ viewCollect commits v
+    go : (v : Slots) → view q t ≡ v → view q (tableAfter (collect q) t) ≡ tail v
     go [] e = rw (find-view q t ∙ ap head? e) e
-    go (r ∷ v) e = rw (find-view q t ∙ ap head? e) (taken (commits (r .residence)) r v e)
+    go (r ∷ v) e = rw (find-view q t ∙ ap head? e) (view-remove-own q t ∙ ap tail e)
 
 pub after-alike :
-    (commits : ℕ → Bool) (a : Request) (q : Identity) (t u : Slots)
+    (a : Request) (q : Identity) (t u : Slots)
     → ((p : Identity) → asked a ≡ some p → q ≡ p)
     → view q t ≡ view q u
     → (tableAnswer a t ≡ refused 14 → ⊥)
     → (tableAnswer a u ≡ refused 14 → ⊥)
-    → view q (tableAfter commits a t) ≡ view q (tableAfter commits a u)
-after-alike commits nothing q t u e h x y = h
-after-alike commits (add p w) q t u e h x y = rw (e p refl) (rw (view-add commits p w t x, view-add commits p w u y, rw (e p refl) at h))
-after-alike commits (collect p) q t u e h x y = rw (e p refl) (rw (view-collect commits p t, view-collect commits p u, rw (e p refl) at h))
+    → view q (tableAfter a t) ≡ view q (tableAfter a u)
+after-alike nothing q t u e h x y = h
+after-alike (add p w) q t u e h x y = rw (e p refl) (rw (view-add p w t x, view-add p w u y, rw (e p refl) at h))
+after-alike (collect p) q t u e h x y = rw (e p refl) (rw (view-collect p t, view-collect p u, rw (e p refl) at h))
 
 pub tick-alike : (q : Identity) (t u : Slots) → view q t ≡ view q u → view q (ticked t) ≡ view q (ticked u)
 tick-alike q t u e = rw (view-ticked q t, view-ticked q u, e)

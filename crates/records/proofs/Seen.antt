@@ -36,7 +36,7 @@ module _ (N : Node) (L : Lawful N) (t : Slots) (es : List (Event (N .Call))) (q 
       foreign : (c : N .Call) → getElem? es i ≡ some (call c) → (N .identity c ≡ some q → ⊥) → Kind N t es q i
       foreign c e h =
           other (λ o. h (let f : c ≡ o .0 = cc in rw f (o .2))) (ticks-call es i c e)
-          (rw (after-suc N t es i (call c) e) (request-other (N .commits c) (N .request c) q (after N t i es) (λ a. h (L .own c q a))))
+          (rw (after-suc N t es i (call c) e) (request-other (N .request c) q (after N t i es) (λ a. h (L .own c q a))))
 
       apart : (c : N .Call) → getElem? es i ≡ some (call c) → (p : Identity) → N .identity c ≡ some p → Dec (p ≡ q) → Kind N t es q i
       apart c e p f (yes g) = own (c, e, f ∙ ap some g)

@@ -2,7 +2,6 @@
 -- document 01 are one such node (crate `rules`).
 use Prim.Native.Nat.{ℕ}
 use mathlib.Core.Path.{_≡_}
-use mathlib.Core.Bool.{Bool, cond}
 use mathlib.Core.List.{List, [], _∷_}
 use mathlib.Core.Option.{Option, none, some}
 use Rattle.refusal.specs.Answer.{Answer, value, refused}
@@ -16,16 +15,14 @@ pub data Request : Type 0 where
   collect : Identity → Request
 
 -- A node. A call is one message with all that is handed in beside it, except the table. `identity` is that of the call's message,
--- where it has one. `commits c u`: a call that finds a record with residence u takes it. `reply` is made of the table's answer;
--- it has all that the call leaves, except the table. `answer` is the reply's answer. `handover` is the table with which the card
--- that takes over goes on.
+-- where it has one. `reply` is made of the table's answer; it has all that the call leaves, except the table. `answer` is the reply's
+-- answer. `handover` is the table with which the card that takes over goes on.
 pub record Node : Type 1 where
   pub Call : Type 0
   pub Reply : Type 0
   pub Word : Type 0
   pub identity : Call → Option Identity
   pub request : Call → Request
-  pub commits : Call → ℕ → Bool
   pub reply : Call → Answer ℕ → Reply
   pub answer : Reply → Answer Word
   pub handover : Slots → Slots
@@ -41,14 +38,14 @@ abbrev pub addLeaves : Identity → ℕ → Slots → Answer ℕ → Slots
 addLeaves q u t (value n) = addTo q u t
 addLeaves q u t (refused n) = t
 
-abbrev pub collectLeaves : (ℕ → Bool) → Identity → Slots → Answer ℕ → Slots
-collectLeaves commits q t (value u) = cond (commits u) (removeFrom q t) t
-collectLeaves commits q t (refused n) = t
+abbrev pub collectLeaves : Identity → Slots → Answer ℕ → Slots
+collectLeaves q t (value u) = removeFrom q t
+collectLeaves q t (refused n) = t
 
-abbrev pub tableAfter : (ℕ → Bool) → Request → Slots → Slots
-tableAfter commits nothing t = t
-tableAfter commits (add q u) t = addLeaves q u t (tableAnswer (add q u) t)
-tableAfter commits (collect q) t = collectLeaves commits q t (tableAnswer (collect q) t)
+abbrev pub tableAfter : Request → Slots → Slots
+tableAfter nothing t = t
+tableAfter (add q u) t = addLeaves q u t (tableAnswer (add q u) t)
+tableAfter (collect q) t = collectLeaves q t (tableAnswer (collect q) t)
 
 -- "Demand 3's lists hold node calls and ticks alone"; but it "reads a loaded table as the one written, if no call, a tick included,
 -- falls between" (document 02, W-201), so that a switchover may stand anywhere among them
@@ -66,7 +63,7 @@ pub data Result (R : Type 0) : Type 0 where
 module _ (N : Node) where
   abbrev pub step : Slots → Event (N .Call) → Slots
   step t tick = ticked t
-  step t (call c) = tableAfter (N .commits c) (N .request c) t
+  step t (call c) = tableAfter (N .request c) t
   step t switchover = N .handover t
 
   abbrev pub result : Slots → Event (N .Call) → Result (N .Reply)

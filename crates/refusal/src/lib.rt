@@ -24,7 +24,7 @@ pub const VALUE_SIZE: u8 = 7;
 
 pub const SUB_TLV: u8 = 8;
 
-// A residence, and a sum of pads.
+// A residence, and a sum of two pads that is below the range.
 pub const INVALID_STAMP: u8 = 9;
 
 pub const TOO_LONG_RESIDENCE: u8 = 10;

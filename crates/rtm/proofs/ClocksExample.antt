@@ -17,8 +17,9 @@ use Rattle.records.specs.Slots.{Slots, same, holds, zeros}
 use Rattle.records.specs.Node.{tick, call}
 use Rattle.rules.specs.Change.{padOf}
 use Rattle.rules.specs.Rules.{Mode, oneStep, twoStep, updated, created, waiting, added}
-use Rattle.rules.specs.Path.{Apart, Every, of-sync, FirstWay, SecondWay, FollowUps, born}
-use Rattle.rules.proofs.Samples.{octetsOf, spare, after, visit, other, apart}
+use Rattle.rules.specs.Path.{FirstUnrefused, Unrefused, Apart, Every, of-sync, FirstWay, SecondWay, FollowUps, born}
+use Rattle.rules.proofs.Pads.{every-map}
+use Rattle.rules.proofs.Samples.{octetsOf, spare, after, visit, unrefused, other, apart}
 use Rattle.rules.proofs.PathExample.{mine, theirs, aSync, aFollowUp}
 use Rattle.rtm.specs.Stamped.{StampedCall, handed, StampedStop, asStop, firstStamps, total, units}
 use Rattle.rtm.proofs.Runs.{stamped-path-sum}
@@ -94,7 +95,7 @@ follow-up-way = SecondWay.cross 4 refl (visit (asStop third) 4 (handed followUpT
 follow-ups : FollowUps mine false (map asStop path) (pos 0) (padOf (aFollowUp 61034))
 unfolding same holds
 follow-ups =
-    born (asStop first ∷ []) (asStop second) {r = after created (aSync true 98304000) left} {last = aFollowUp 61034} refl refl
+    born (asStop first ∷ []) (asStop second) {r = after created (aSync true 98304000) left} {last = aFollowUp 61034} (refl, tt) refl refl refl
     (List·Permᴰ·cons refl List·Permᴰ·nil) follow-up-way
 
 all-apart : Every (Apart mine) (map asStop path)
@@ -107,9 +108,15 @@ all-apart = (
   ),
 )
 
+none-refused : Every Unrefused (map asStop path)
+unfolding same holds
+none-refused = (unrefused (asStop first) refl refl, (unrefused (asStop second) refl refl, (unrefused (asStop third) refl refl, tt)))
+
 -- the sum, and its numbers: 98,304,000 + 61,034 = 0 + 0 + (98,304,000 + 15,258 + 45,776)
 sum : padOf (aSync true 98304000) +ℤ padOf (aFollowUp 61034) ≡ padOf (aSync false 0) +ℤ pos 0 +ℤ pos (total units (firstStamps path))
-sum = stamped-path-sum mine false (aSync false 0) (aSync true 98304000) path (pos 0) (padOf (aFollowUp 61034)) refl all-apart sync-way follow-ups
+sum =
+    stamped-path-sum mine false (aSync false 0) (aSync true 98304000) path (pos 0) (padOf (aFollowUp 61034)) refl all-apart none-refused sync-way
+    follow-ups refl refl
 
 residences : total units (firstStamps path) ≡ 98304000 + 15258 + 45776
 residences = refl
@@ -121,7 +128,9 @@ in-numbers = sum
 rounded :
     (total units (firstStamps path) * 65536 ≤ total exact (firstStamps path))
     × (total exact (firstStamps path) < (total units (firstStamps path) + 2) * 65536)
-rounded = path-rounded-down mine (aSync false 0) (aSync true 98304000) path 2 (of-sync false) sync-way refl (omega arith)
+rounded =
+    path-rounded-down mine (aSync false 0) (aSync true 98304000) path 2 (of-sync false)
+    (every-map Unrefused FirstUnrefused (λ n u. u .0) (map asStop path) none-refused) sync-way refl (omega arith)
 
 exactly : total exact (firstStamps path) ≡ total units (firstStamps path) * 65536 + 75776
 exactly = refl

@@ -13,8 +13,9 @@ use Rattle.records.specs.Slots.{same, holds}
 use Rattle.records.specs.Node.{tick, call}
 use Rattle.rules.specs.Change.{padOf}
 use Rattle.rules.specs.Rules.{oneStep, twoStep, updated, passed, waiting, added}
-use Rattle.rules.specs.Path.{Apart, Every, of-delay, FirstWay, SecondWay}
-use Rattle.rules.proofs.Samples.{spare, visit, apart}
+use Rattle.rules.specs.Path.{FirstUnrefused, Unrefused, Apart, Every, of-delay, FirstWay, SecondWay}
+use Rattle.rules.proofs.Pads.{every-map}
+use Rattle.rules.proofs.Samples.{spare, visit, unrefused, apart}
 use Rattle.rules.proofs.DelayExample.{mine, request, response}
 use Rattle.rtm.specs.Stamped.{StampedCall, handed, StampedStop, asStop, firstStamps, total, units}
 use Rattle.rtm.proofs.Runs.{stamped-delay-path-sum}
@@ -67,13 +68,17 @@ all-apart = (
 reversed : List·Permᴰ back path
 reversed = List·Permᴰ·swap {a = second} {b = first} {a′ = first} {b′ = second} refl refl
 
+none-refused : Every Unrefused (map asStop path)
+unfolding same holds
+none-refused = (unrefused (asStop first) refl refl, (unrefused (asStop second) refl refl, tt))
+
 -- the sum, and its numbers: 98,304,000 + 15,258 = 0 + 0 + (98,304,000 + 15,258)
 sum :
     padOf (request (pos 98304000)) +ℤ padOf (response (pos 15258))
     ≡ padOf (request (pos 0)) +ℤ padOf (response (pos 0)) +ℤ pos (total units (firstStamps path))
 sum =
-    stamped-delay-path-sum mine (request (pos 0)) (request (pos 98304000)) (response (pos 0)) (response (pos 15258)) path back refl refl all-apart there
-    reversed returning
+    stamped-delay-path-sum mine (request (pos 0)) (request (pos 98304000)) (response (pos 0)) (response (pos 15258)) path back refl refl all-apart
+    none-refused there reversed returning refl refl
 
 in-numbers : pos 98304000 +ℤ pos 15258 ≡ pos 0 +ℤ pos 0 +ℤ pos 98319258
 in-numbers = sum
@@ -82,7 +87,9 @@ in-numbers = sum
 rounded :
     (total units (firstStamps path) * 65536 ≤ total exact (firstStamps path))
     × (total exact (firstStamps path) < (total units (firstStamps path) + 1) * 65536)
-rounded = path-rounded-down mine (request (pos 0)) (request (pos 98304000)) path 1 of-delay there refl (omega arith)
+rounded =
+    path-rounded-down mine (request (pos 0)) (request (pos 98304000)) path 1 of-delay
+    (every-map Unrefused FirstUnrefused (λ n u. u .0) (map asStop path) none-refused) there refl (omega arith)
 
 exactly : total exact (firstStamps path) ≡ total units (firstStamps path) * 65536 + 51712
 exactly = refl

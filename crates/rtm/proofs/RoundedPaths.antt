@@ -15,13 +15,12 @@ use Rattle.stamp.specs.declared.stamps.Stamps.the-variants.{Ptp, Ntp}
 use Rattle.stamp.specs.Stamps.{residenceOf}
 use Rattle.stamp.specs.Rounding.{exact}
 use Rattle.stamp.proofs.Given.{not-rounded, rounded-down}
-use Rattle.records.specs.declared.RecordKind.the-variants.{Sync, Delay}
 use Rattle.records.specs.declared.Identity.{Identity}
 use Rattle.records.specs.Node.{Event, tick, call, switchover}
 use Rattle.rules.specs.Rules.{Kind, sync, delayReq, kindOf, Mode, oneStep, twoStep, Call, Reply, update, create, keep, rules}
-use Rattle.rules.specs.Path.{Stop, Visit, First, of-sync, of-delay, FirstWay, unitsOf}
-use Rattle.rules.proofs.Calls.{Unrefused, reply-is}
-use Rattle.rules.proofs.Crossing.{asked, fine, of-kind, first-at-one, first-at-two, sync-creates}
+use Rattle.rules.specs.Path.{firstAnswer, FirstUnrefused, Visit, Every, First, of-sync, of-delay, FirstWay, unitsOf}
+use Rattle.rules.proofs.Calls.{reply-is, next-first}
+use Rattle.rules.proofs.Crossing.{asked, came, of-kind, answered-first, first-at}
 use Rattle.rtm.specs.Stamped.{StampedCall, handed, handedEvent, StampedStop, asStop, stampsIn, firstStamps, total, units}
 use Rattle.rtm.specs.Rounding.{ntpNode, PathRoundedDown}
 use Rattle.rtm.proofs.Runs.{accepted-is}
@@ -43,7 +42,7 @@ within-more (Ntp entry exit) u ss e h =
     (omega (arith, f, g .0, h .0), omega (arith, f, g .1, h .1))
 
 -- a call on a first message that is not refused has its residence accepted
-module _ (c : Call) (table : Answer ℕ) (q : Identity) (fine : Unrefused (rules .reply c table)) where
+module _ (c : Call) (table : Answer ℕ) (q : Identity) (fine : (n : ℕ) → rules .reply c table .answer ≡ refused n → ⊥) where
   abbrev Accepted : Type 0
   Accepted = (u : ℕ) × (acceptedOf (c .residence) ≡ value u)
 
@@ -78,46 +77,35 @@ unhanded (call c ∷ es) zero d e = (c, refl, out e)
 unhanded (e ∷ es) (suc k) d p = unhanded es k d p
 
 module _ (q : Identity) where
-  -- a Sync leaves a node as a Sync, a Delay_Req as a Delay_Req
-  remains-first :
-      (n : Stop) (s : List ℕ) (r : Reply) {k : Kind}
-      → Visit n (n .firstPlace) s r
-      → First q k
-      → kindOf s ≡ k
-      → (x : Kind) × First q x × (kindOf (r .message) ≡ x)
-  remains-first n s r {k} v f e = go (n .mode) refl f e
-    where
-      go : (o : Mode) → n .mode ≡ o → {k : Kind} → First q k → kindOf s ≡ k → (x : Kind) × First q x × (kindOf (r .message) ≡ x)
-      go oneStep o {k} f e = (k, f, first-at-one q n s r v k f o e .0 .kind)
-      go twoStep o (of-sync true) e = (sync q true, of-sync true, ap kindOf (first-at-two q n s r v Sync o e .0) ∙ e)
-      go twoStep o (of-sync false) e = (sync q true, of-sync true, sync-creates q n s r v o e .0)
-      go twoStep o of-delay e = (delayReq q, of-delay, ap kindOf (first-at-two q n s r v Delay o e .0) ∙ e)
-
   -- the stamps of its call there give a residence
   measured :
       (n : StampedStop) (s : List ℕ) (r : Reply) {k : Kind}
       → Visit (asStop n) (n .firstPlace) s r
+      → FirstUnrefused (asStop n)
       → First q k
       → kindOf s ≡ k
       → (x : Stamps) × (u : ℕ) × (stampsIn (getElem? (n .events) (n .firstPlace)) ≡ x ∷ []) × (residenceOf x ≡ value u)
-  measured n s r {k} v f e =
+  measured n s r {k} v h f e =
       let m = asStop n in
       let i = n .firstPlace in
+      let answer = answered-first q m s r v ∙ ap (λ (y : Reply). some (y .answer)) (came m i s r v) in
       let g = unhanded (n .events) i (v .handed) (v .here) in
-      let h = accepts (v .handed) (asked m i s r v) q (fine m i s r v) f (of-kind m i s r v k e) in
-      (g .0 .stamps, h .0, ap stampsIn (g .1), sym (accepted-is (g .0 .stamps)) ∙ ap (λ (c : Call). acceptedOf (c .residence)) (g .2) ∙ h .1)
+      let x = accepts (v .handed) (asked m i s r v) q (λ a z. h a (answer ∙ ap some z)) f (of-kind m i s r v k e) in
+      (g .0 .stamps, x .0, ap stampsIn (g .1), sym (accepted-is (g .0 .stamps)) ∙ ap (λ (c : Call). acceptedOf (c .residence)) (g .2) ∙ x .1)
 
   all-within :
       {s last : List ℕ} {k : Kind} (path : List StampedStop)
       → First q k
       → kindOf s ≡ k
+      → Every FirstUnrefused (map asStop path)
       → FirstWay s (map asStop path) last
       → Within (firstStamps path)
-  all-within [] f e w = (omega arith, omega arith)
-  all-within (n ∷ ns) f e (FirstWay.cross {s = s} {r = r} v w) =
-      let x = measured n s r v f e in
-      let y = remains-first (asStop n) s r v f e in
-      rw (x .2) (within-more (x .0) (x .1) (firstStamps ns) (x .3) (all-within ns (y .1) (y .2) w))
+  all-within [] f e h w = (omega arith, omega arith)
+  all-within (n ∷ ns) f e h (FirstWay.cross {s = s} {r = r} v w) =
+      let m = asStop n in
+      let x = measured n s r v (h .0) f e in
+      let y = first-at q m s r v f e .grown .kind in
+      rw (x .2) (within-more (x .0) (x .1) (firstStamps ns) (x .3) (all-within ns (next-first f (firstAnswer m)) y (h .1) w))
 
 pub path-rounded-down : PathRoundedDown
-path-rounded-down q start last path n f w t h = let x = all-within q path f refl w in (x .0, omega (arith, x .1, t, h))
+path-rounded-down q start last path n f u w t h = let x = all-within q path f refl u w in (x .0, omega (arith, x .1, t, h))

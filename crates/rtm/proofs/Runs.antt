@@ -88,8 +88,8 @@ along (n ∷ ns) =
     omega (arith, at-place (n .events) (n .firstPlace), along ns, total-append units (stampsIn (getElem? (n .events) (n .firstPlace))) (firstStamps ns))
 
 pub stamped-path-sum : StampedPathSum
-stamped-path-sum q s start last path first second e h w f =
-    path-sum q s start last (map asStop path) first second e h w f ∙ ap (λ (n : ℕ). padOf start +ℤ first +ℤ pos n) (along path)
+stamped-path-sum q s start last path first second e h u w f c d =
+    path-sum q s start last (map asStop path) first second e h u w f c d ∙ ap (λ (n : ℕ). padOf start +ℤ first +ℤ pos n) (along path)
 
 -- nodes in another order
 stops-order : {fs ns : List StampedStop} → List·Permᴰ fs ns → List·Permᴰ (map asStop fs) (map asStop ns)
@@ -99,6 +99,6 @@ stops-order (List·Permᴰ·swap e₁ e₂) = List·Permᴰ·swap (ap asStop e�
 stops-order (List·Permᴰ·trans p q) = List·Permᴰ·trans (stops-order p) (stops-order q)
 
 pub stamped-delay-path-sum : StampedDelayPathSum
-stamped-delay-path-sum q request last response end path back e f h w p v =
-    delay-path-sum q request last response end (map asStop path) (map asStop back) e f h w (stops-order p) v
+stamped-delay-path-sum q request last response end path back e f h u w p v c d =
+    delay-path-sum q request last response end (map asStop path) (map asStop back) e f h u w (stops-order p) v c d
     ∙ ap (λ (n : ℕ). padOf request +ℤ padOf response +ℤ pos n) (along path)

@@ -2,7 +2,7 @@
 -- theorems (crate `rules`) speak of them too. The calls of one list, and the nodes of one path, may have stamps of different formats.
 use Prim.Native.Nat.{ℕ, _+_}
 use mathlib.Core.Path.{_≡_}
-use mathlib.Core.Bool.{Bool, cond}
+use mathlib.Core.Bool.{Bool, false, cond}
 use mathlib.Core.List.{List, [], _∷_, _++_, map, List·Permᴰ}
 use mathlib.Core.Option.{Option, none, some}
 use lib.Dec.{eqb}
@@ -13,13 +13,14 @@ use Rattle.residence.specs.declared.Residence.{Residence}
 use Rattle.residence.specs.declared.Residence.the-variants.{Units, InvalidStamp, TooLong}
 use Rattle.stamp.specs.declared.stamps.Stamps.{Stamps}
 use Rattle.stamp.specs.Stamps.{residenceOf}
+use Rattle.scratch_pad.specs.Sum.{tooBig}
 use Rattle.records.specs.declared.Identity.{Identity}
 use Rattle.records.specs.Slots.{Slots}
 use Rattle.records.specs.Node.{Node, Event, tick, call, switchover, run, final}
 use Rattle.records.specs.Order.{OrderFree}
 use Rattle.rules.specs.Change.{padOf}
 use Rattle.rules.specs.Rules.{Mode, Call, Reply, Word, sync, delayReq, delayResp, kindOf, rules}
-use Rattle.rules.specs.Path.{Stop, Apart, Every, FirstWay, SecondWay, FollowUps, unitsOf}
+use Rattle.rules.specs.Path.{Stop, Unrefused, Apart, Every, FirstWay, SecondWay, FollowUps, unitsOf}
 
 -- the residence whose answer is given: 9 an invalid stamp, 10 too long
 abbrev pub residenceBy : Answer ℕ → Residence
@@ -58,7 +59,6 @@ stamped =
       Word = Word;
       identity = λ c. rules .identity (handed c);
       request = λ c. rules .request (handed c);
-      commits = λ c. rules .commits (handed c);
       reply = λ c. rules .reply (handed c);
       answer = rules .answer;
       handover = rules .handover;
@@ -118,8 +118,11 @@ StampedPathSum =
     (q : Identity) (s : Bool) (start last : List ℕ) (path : List StampedStop) (first second : ℤ)
     → kindOf start ≡ sync q s
     → Every (Apart q) (map asStop path)
+    → Every Unrefused (map asStop path)
     → FirstWay start (map asStop path) last
     → FollowUps q s (map asStop path) first second
+    → tooBig (padOf last) ≡ false
+    → tooBig second ≡ false
     → padOf last +ℤ second ≡ padOf start +ℤ first +ℤ pos (total units (firstStamps path))
 
 -- and of a Delay_Req and its Delay_Resp
@@ -129,7 +132,10 @@ StampedDelayPathSum =
     → kindOf request ≡ delayReq q
     → kindOf response ≡ delayResp q
     → Every (Apart q) (map asStop path)
+    → Every Unrefused (map asStop path)
     → FirstWay request (map asStop path) last
     → List·Permᴰ back path
     → SecondWay response (map asStop back) end
+    → tooBig (padOf last) ≡ false
+    → tooBig (padOf end) ≡ false
     → padOf last +ℤ padOf end ≡ padOf request +ℤ padOf response +ℤ pos (total units (firstStamps path))

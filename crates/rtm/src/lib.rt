@@ -14,7 +14,7 @@ ghost use Rattle.rules.specs.Rules.{oneStep, twoStep, callOf};
 ghost use Rattle.node.specs.Answers.{doneAlone, done};
 ghost use Rattle.rtm.specs.Stamped.{handedCall};
 
-// A message at a one-step node: updated or passed; refusals 1 to 11, see node::handle_one_step.
+// A message at a one-step node: updated or passed; refusals 1 to 10, see node::handle_one_step.
 pub fn one_step(message: &mut [u8], stamps: Stamps) -> Answer
     ensures { λ r. ⌜
         ((t : Slots) (o : List ℕ) → doneAlone r (now (message .exit)) o t ≡ callOf t (handedCall oneStep (now (message .entry)) o stamps))
@@ -23,8 +23,8 @@ pub fn one_step(message: &mut [u8], stamps: Stamps) -> Answer
     node::handle_one_step(message, stamp::residence_of(stamps))
 }
 
-// A message at a two-step node: created, waiting, added or passed; refusals 1 to 16, see
-// node::handle_two_step.
+// A message at a two-step node: created, waiting, added or passed; refusals 1 to 10 and 12 to 16,
+// see node::handle_two_step.
 pub fn two_step(table: Table, message: &mut [u8], output: &mut [u8], stamps: Stamps) -> Done
     ensures { λ r. ⌜
         done r (now (message .exit)) (now (output .exit))

@@ -2,7 +2,7 @@
 -- its nodes in another order than the Sync; a path on which no node creates a Follow_Up; and a record that is gone at its third tick.
 -- Assumes nothing.
 use Prim.Native.Nat.{ℕ, _*_}
-use mathlib.Core.Path.{_≡_, refl, sym, ap, _∙_}
+use mathlib.Core.Path.{_≡_, refl}
 use mathlib.Core.Bool.{true, false}
 use mathlib.Core.List.{List, [], _∷_, List·Permᴰ, List·Permᴰ·cons, List·Permᴰ·swap, List·Permᴰ·trans}
 use mathlib.Core.Logic.{inl, inr}
@@ -10,18 +10,18 @@ use mathlib.Core.Option.{none, some}
 use native.Mathlib.Omega.{arith}
 use lib.IntN.{ℤ, pos, negsuc, _+ℤ_}
 use lib.ListN.{take, replicate, getElem?}
-use Rattle.refusal.specs.Answer.{Answer, value, refused}
+use Rattle.refusal.specs.Answer.{refused}
 use Rattle.residence.specs.declared.Residence.the-variants.{InvalidStamp}
 use Rattle.records.specs.Slots.{Slots, same, holds, zeros, find}
 use Rattle.records.specs.Node.{Event, tick, call, switchover, replied, run, final}
 use Rattle.image.specs.Image.{sound, ofSync, differ}
 use Rattle.rules.specs.Change.{padOf}
-use Rattle.rules.specs.Rules.{oneStep, twoStep, Call, Word, Reply, asItCame, updated, passed, created, waiting, added, rules}
-use Rattle.rules.specs.Path.{Stop, ReplyAt, Apart, Every, FirstWay, SecondWay, FollowUps, existing, never, residences}
+use Rattle.rules.specs.Rules.{oneStep, twoStep, Call, asItCame, updated, passed, waiting, added, rules}
+use Rattle.rules.specs.Path.{Stop, Unrefused, Apart, Every, FirstWay, SecondWay, FollowUps, existing, never, residences}
 use Rattle.rules.specs.Demand3.{Waiting}
 use Rattle.rules.proofs.Laws.{gone-at-third-tick}
 use Rattle.rules.proofs.PathSums.{path-sum}
-use Rattle.rules.proofs.Samples.{octetsOf, stayed, spare, handedIn, recordOf, after, visit, waits, other, apart}
+use Rattle.rules.proofs.Samples.{octetsOf, stayed, spare, handedIn, recordOf, visit, unrefused, not-created, waits, other, apart}
 use Rattle.rules.proofs.PathExample.{mine, theirs, aSync}
 
 abbrev new : Slots
@@ -108,11 +108,15 @@ all-apart = (
   ),
 )
 
+none-refused : Every Unrefused path
+unfolding same holds sound ofSync differ
+none-refused = (unrefused first refl refl, (unrefused second refl refl, (unrefused third refl refl, tt)))
+
 -- 98,303,995 + 16,384,011 = -5 + 11 + 114,688,000
 sum : padOf (setSync (pos 98303995)) +ℤ padOf (itsFollowUp 16384011) ≡ padOf (setSync (negsuc 4)) +ℤ padOf (itsFollowUp 11) +ℤ pos (residences path)
 sum =
-    path-sum mine true (setSync (negsuc 4)) (setSync (pos 98303995)) path (padOf (itsFollowUp 11)) (padOf (itsFollowUp 16384011)) refl all-apart sync-way
-    (existing refl another-order follow-up-way)
+    path-sum mine true (setSync (negsuc 4)) (setSync (pos 98303995)) path (padOf (itsFollowUp 11)) (padOf (itsFollowUp 16384011)) refl all-apart
+    none-refused sync-way (existing refl another-order follow-up-way) refl refl
 
 in-numbers : pos 98303995 +ℤ pos 16384011 ≡ negsuc 4 +ℤ pos 11 +ℤ pos 114688000
 in-numbers = sum
@@ -130,41 +134,29 @@ alone c = record { mode = oneStep; table = new; events = tick ∷ call c ∷ [];
 abbrev oneStepPath : List Stop
 oneStepPath = alone updatedFirst ∷ alone updatedSecond ∷ []
 
-abbrev isUpdated : Answer Word → ℕ
-isUpdated (value updated) = 1
-isUpdated (value passed) = 0
-isUpdated (value created) = 0
-isUpdated (value waiting) = 0
-isUpdated (value added) = 0
-isUpdated (refused n) = 0
-
 one-step-way : FirstWay (aSync false 7) oneStepPath (aSync false 111411207)
 unfolding same holds sound ofSync differ
 one-step-way =
     FirstWay.cross (visit (alone updatedFirst) 1 updatedFirst updated (aSync false 98304007) spare refl refl refl)
     (FirstWay.cross (visit (alone updatedSecond) 1 updatedSecond updated (aSync false 111411207) spare refl refl refl) FirstWay.done)
 
--- what was answered "updated" was not answered "created"
-not-created : (c : Call) (m : List ℕ) → ReplyAt (alone c) 1 (after updated m spare) → (r : Reply) → ReplyAt (alone c) 1 r → r .answer ≡ value created → ⊥
-not-created c m is r e q =
-    let same-reply : after updated m spare ≡ r = out (sym is ∙ e) in
-    let z : _≡_ {A = ℕ} 1 0 = ap isUpdated (ap (λ (x : Reply). x .answer) same-reply ∙ q) in
-    omega arith
-  where
-    out : {x y : Reply} → some (replied x) ≡ some (replied y) → x ≡ y
-    out p = cc
-
 none-created : FollowUps mine false oneStepPath (pos 0) (pos 0)
 unfolding same holds sound ofSync differ
-none-created = never {ns = oneStepPath} (not-created updatedFirst (aSync false 98304007) refl, (not-created updatedSecond (aSync false 111411207) refl, tt))
+none-created = never {ns = oneStepPath} ((refl, not-created refl), ((refl, not-created refl), tt))
 
 one-step-apart : Every (Apart mine) oneStepPath
 unfolding same holds sound ofSync differ
 one-step-apart = (apart mine (alone updatedFirst) refl (tt, (λ e. inl refl, tt)), (apart mine (alone updatedSecond) refl (tt, (λ e. inl refl, tt)), tt))
 
+one-step-unrefused : Every Unrefused oneStepPath
+unfolding same holds sound ofSync differ
+one-step-unrefused = (unrefused (alone updatedFirst) refl refl, (unrefused (alone updatedSecond) refl refl, tt))
+
 -- 111,411,207 + 0 = 7 + 0 + 111,411,200
 one-step-sum : padOf (aSync false 111411207) +ℤ pos 0 ≡ padOf (aSync false 7) +ℤ pos 0 +ℤ pos (residences oneStepPath)
-one-step-sum = path-sum mine false (aSync false 7) (aSync false 111411207) oneStepPath (pos 0) (pos 0) refl one-step-apart one-step-way none-created
+one-step-sum =
+    path-sum mine false (aSync false 7) (aSync false 111411207) oneStepPath (pos 0) (pos 0) refl one-step-apart one-step-unrefused one-step-way
+    none-created refl refl
 
 one-step-numbers : pos 111411207 +ℤ pos 0 ≡ pos 7 +ℤ pos 0 +ℤ pos (1700 * 65536)
 one-step-numbers = one-step-sum

@@ -1,16 +1,18 @@
--- What comes of a call on the first or the second message of a pair that is not refused, in each mode.
+-- What comes of a call on the first or the second message of a pair, in each mode, refused or not.
 -- Assumes nothing.
 use Prim.Native.Nat.{ℕ, _<_, _^_}
 use mathlib.Core.Path.{_≡_, refl, sym, ap, _∙_}
-use mathlib.Core.Bool.{Bool, true, false, not}
-use mathlib.Core.List.{_++_}
+use mathlib.Core.Bool.{Bool, true, false, not, cond, _||_}
+use mathlib.Core.List.{List, _++_}
+use mathlib.Core.Option.{Option, none, some}
 use native.Mathlib.Omega.{arith}
-use mathlib.Core.Option.{some}
-use lib.Dec.{ltb}
-use lib.IntN.{ℤ, pos, _+ℤ_}
+use lib.Dec.{ltb, eqb}
+use lib.IntN.{pos}
 use lib.ListN.{length, take, drop}
 use lib.Seq.{take-at}
-use Rattle.refusal.specs.Answer.{Answer, value, refused, refuse}
+use Rattle.octets.specs.Octets.{number}
+use Rattle.refusal.specs.Answer.{Answer, value, refused}
+use Rattle.refusal.proofs.Answers.{not-both}
 use Rattle.residence.specs.declared.Residence.{Residence}
 use Rattle.residence.specs.Residence.{acceptedOf}
 use Rattle.residence.proofs.Limit.{below-limit}
@@ -18,34 +20,30 @@ use Rattle.message.proofs.Sound.{SoundPtp}
 use Rattle.records.specs.declared.RecordKind.{RecordKind}
 use Rattle.records.specs.declared.RecordKind.the-variants.{Sync, Delay}
 use Rattle.records.specs.declared.Identity.{Identity}
-use Rattle.records.specs.Node.{add, collect}
-use Rattle.scratch_pad.specs.Sum.{inRange}
+use Rattle.records.specs.Node.{collect}
+use Rattle.scratch_pad.specs.Sum.{raised}
+use Rattle.scratch_pad.proofs.Whole.{inRange}
+use Rattle.scratch_pad.proofs.Held.{raised-none, raised-range, read-range}
 use Rattle.rules.specs.Change.{padOf, withTwoStep, followUpOf}
-use Rattle.rules.specs.Rules.{Kind, sync, followUp, firstOf, secondOf, kindOf, kindIdentity, Mode, oneStep, twoStep, Call, Word, updated, created, waiting, added, Reply, summed, addToPad, asItCame, update, oneStepReply, createIn, create, keep, gather, twoStepReply, replyBy, keepRequest, twoStepRequest, requestBy, passed, rules}
+use Rattle.rules.specs.Rules.{Kind, sync, followUp, delayReq, firstOf, secondOf, kindOf, kindIdentity, Mode, oneStep, twoStep, Call, Word, updated, passed, created, waiting, added, Reply, asItCame, addToPad, update, oneStepReply, createIn, create, keep, gather, twoStepReply, replyBy, keepRequest, twoStepRequest, requestBy, rules}
 use Rattle.rules.specs.Path.{First, of-sync, of-delay, unitsOf}
 use Rattle.rules.proofs.Bearing.{Bears, sync-kind, follow-up-kind, sound-ptp, is-sync}
 use Rattle.rules.proofs.Changes.{with-pad-pad, with-pad-kind, with-two-step-bears, with-two-step-pad, follow-up-length, follow-up-pad, follow-up-bears}
 
-abbrev pub Unrefused : Reply → Type 0
-Unrefused r = (n : ℕ) → r .answer ≡ refused n → ⊥
-
 -- a pad that was added to, of a message that stays of its kind
 module _ (c : Call) (w : Word) (u : ℕ) (m : SoundPtp (c .message)) where
-  pub record Raised (r : Reply) : Type 0 where
-    pub kind : kindOf (r .message) ≡ kindOf (c .message)
-    pub pad : padOf (r .message) ≡ padOf (c .message) +ℤ pos u
-    pub answer : r .answer ≡ value w
-    pub fits : inRange (padOf (c .message) +ℤ pos u) ≡ true
+  fits : inRange (raised (padOf (c .message)) u) ≡ true
+  fits = raised-range (padOf (c .message)) u (read-range (number 8 (c .message) 4))
 
-  pub raised : Unrefused (addToPad c w u) → Raised (addToPad c w u)
-  raised fine = go (inRange z) refl fine
-    where
-      z : ℤ
-      z = padOf (c .message) +ℤ pos u
+  pub added-pad : padOf (addToPad c w u .message) ≡ raised (padOf (c .message)) u
+  added-pad = with-pad-pad (c .message) m (raised (padOf (c .message)) u) fits
 
-      go : (t : Bool) → inRange z ≡ t → Unrefused (summed c w (refuse 11 (not t) (value z))) → Raised (summed c w (refuse 11 (not t) (value z)))
-      go true e h = record { kind = with-pad-kind (c .message) m z e; pad = with-pad-pad (c .message) m z e; answer = refl; fits = e }
-      go false e h = absurd (h 11 refl)
+  pub added-kind : kindOf (addToPad c w u .message) ≡ kindOf (c .message)
+  added-kind = with-pad-kind (c .message) m (raised (padOf (c .message)) u) fits
+
+-- and one that was not
+pub same-pad : (s : List ℕ) → padOf s ≡ raised (padOf s) 0
+same-pad s = sym (raised-none (padOf s) (read-range (number 8 s 4)))
 
 -- the reply and the request of a call whose mode and kind are known
 pub reply-is : (c : Call) (table : Answer ℕ) (m : Mode) (k : Kind) → c .mode ≡ m → kindOf (c .message) ≡ k → rules .reply c table ≡ replyBy m c table k
@@ -55,7 +53,7 @@ pub request-is : (c : Call) (m : Mode) (k : Kind) → c .mode ≡ m → kindOf (
 request-is c m k o e = ap (λ (x : Mode). requestBy x (c .residence) (kindOf (c .message))) o ∙ ap (λ (x : Kind). requestBy m (c .residence) x) e
 
 -- the first messages
-pub first-of : (x : RecordKind) (q : Identity) → First q (firstOf x q)
+abbrev pub first-of : (x : RecordKind) (q : Identity) → First q (firstOf x q)
 first-of Sync q = of-sync true
 first-of Delay q = of-delay
 
@@ -92,67 +90,152 @@ pub second-asks : (r : Residence) (x : RecordKind) (q : Identity) → twoStepReq
 second-asks r Sync q = refl
 second-asks r Delay q = refl
 
-module _ (c : Call) (table : Answer ℕ) (q : Identity) where
-  -- one-step: the first message is added to
-  pub record Updated (k : Kind) (r : Reply) : Type 0 where
-    pub kind : kindOf (r .message) ≡ k
-    pub pad : padOf (r .message) ≡ padOf (c .message) +ℤ pos (unitsOf (acceptedOf (c .residence)))
-    pub answer : r .answer ≡ value updated
+-- the answer is this word
+abbrev wordNumber : Word → ℕ
+wordNumber updated = 0
+wordNumber passed = 1
+wordNumber created = 2
+wordNumber waiting = 3
+wordNumber added = 4
 
-  pub first-one : {k : Kind} → First q k → c .mode ≡ oneStep → kindOf (c .message) ≡ k → Unrefused (rules .reply c table) → Updated k (rules .reply c table)
-  first-one {k} f o e fine = rw is (go (acceptedOf (c .residence)) refl (rw is at fine))
+abbrev pub says : Word → Option (Answer Word) → Bool
+says w none = false
+says w (some (refused n)) = false
+says w (some (value v)) = eqb (wordNumber v) (wordNumber w)
+
+-- a residence where it is, and else nothing
+abbrev pub when : Word → Option (Answer Word) → ℕ → ℕ
+when w o u = cond (says w o) u 0
+
+module _ {q : Identity} where
+  -- a first message is a Sync with S clear
+  abbrev pub clear : {k : Kind} → First q k → Bool
+  clear (of-sync s) = not s
+  clear of-delay = false
+
+  -- its kind after a node with this answer: S is set where the node creates
+  abbrev pub next : {k : Kind} → First q k → Option (Answer Word) → Kind
+  next (of-sync s) o = sync q (s || says created o)
+  next of-delay o = delayReq q
+
+  abbrev pub next-first : {k : Kind} (f : First q k) (o : Option (Answer Word)) → First q (next f o)
+  next-first (of-sync s) o = of-sync (s || says created o)
+  next-first of-delay o = of-delay
+
+  next-same : {k : Kind} (f : First q k) (o : Option (Answer Word)) → says created o ≡ false → next f o ≡ k
+  next-same (of-sync true) o e = refl
+  next-same (of-sync false) o e = ap (sync q) e
+  next-same of-delay o e = refl
+
+-- where S is set, or a Delay_Req comes, it stays so
+pub set-clear : (x : RecordKind) (q : Identity) → clear (first-of x q) ≡ false
+set-clear Sync q = refl
+set-clear Delay q = refl
+
+pub set-next : (x : RecordKind) (q : Identity) (o : Option (Answer Word)) → next (first-of x q) o ≡ firstOf x q
+set-next Sync q o = refl
+set-next Delay q o = refl
+
+-- what a node may answer to a first message, by its mode, and whether that is a Sync with S clear
+pub data FirstSays : Mode → Bool → Answer Word → Type 0 where
+  refused-first : (m : Mode) (b : Bool) (n : ℕ) → FirstSays m b (refused n)
+  updated-first : (b : Bool) → FirstSays oneStep b (value updated)
+  created-first : FirstSays twoStep true (value created)
+  waiting-first : FirstSays twoStep false (value waiting)
+
+-- and to a second one
+pub data SecondSays : Mode → Answer Word → Type 0 where
+  refused-second : (n : ℕ) → SecondSays twoStep (refused n)
+  passed-second : SecondSays oneStep (value passed)
+  added-second : SecondSays twoStep (value added)
+
+module _ (c : Call) (table : Answer ℕ) (q : Identity) where
+  pub record FirstCall {k : Kind} (m : Mode) (f : First q k) (r : Reply) : Type 0 where
+    pub says-it : FirstSays m (clear f) (r .answer)
+    pub kind : kindOf (r .message) ≡ next f (some (r .answer))
+    pub pad : padOf (r .message) ≡ raised (padOf (c .message)) (when updated (some (r .answer)) (unitsOf (acceptedOf (c .residence))))
+
+  -- a call that leaves the message as it came
+  left :
+      {k : Kind} (m : Mode) (f : First q k) (a : Answer Word) → kindOf (c .message) ≡ k → FirstSays m (clear f) a
+      → says created (some a) ≡ false → says updated (some a) ≡ false → FirstCall m f (asItCame c a)
+  left m f a e s n u =
+      record {
+        says-it = s;
+        kind = e ∙ sym (next-same f (some a) n);
+        pad = same-pad (c .message) ∙ ap (λ (b : Bool). raised (padOf (c .message)) (cond b (unitsOf (acceptedOf (c .residence))) 0)) (sym u);
+      }
+
+  not-taken : {k : Kind} (m : Mode) (f : First q k) (n : ℕ) → kindOf (c .message) ≡ k → FirstCall m f (asItCame c (refused n))
+  not-taken m f n e = left m f (refused n) e (refused-first m (clear f) n) refl refl
+
+  -- one-step: the first message is added to
+  first-one : {k : Kind} (f : First q k) → c .mode ≡ oneStep → kindOf (c .message) ≡ k → FirstCall oneStep f (rules .reply c table)
+  first-one {k} f o e = rw is (go (acceptedOf (c .residence)) refl)
     where
       is : rules .reply c table ≡ update c (acceptedOf (c .residence))
       is = reply-is c table oneStep k o e ∙ first-updates c f
 
-      go : (a : Answer ℕ) → acceptedOf (c .residence) ≡ a → Unrefused (update c a) → Updated k (update c a)
-      go (refused n) p h = absurd (h n refl)
-      go (value u) p h =
-          let r = raised c updated u (sound-ptp (c .message) q (ap kindIdentity e ∙ first-identity f)) h in
+      m : SoundPtp (c .message)
+      m = sound-ptp (c .message) q (ap kindIdentity e ∙ first-identity f)
+
+      go : (a : Answer ℕ) → acceptedOf (c .residence) ≡ a → FirstCall oneStep f (update c a)
+      go (refused n) p = not-taken oneStep f n e
+      go (value u) p =
           record {
-            kind = r .kind ∙ e;
-            pad = r .pad ∙ ap (λ (x : Answer ℕ). padOf (c .message) +ℤ pos (unitsOf x)) (sym p);
-            answer = r .answer;
+            says-it = updated-first (clear f);
+            kind = added-kind c updated u m ∙ e ∙ sym (next-same f (some (value updated)) refl);
+            pad = added-pad c updated u m ∙ ap (λ (x : Answer ℕ). raised (padOf (c .message)) (unitsOf x)) (sym p);
           }
 
-  -- two-step, S set, or a Delay_Req: the message stays, and the table is asked to keep the residence
-  pub record Kept (r : Reply) : Type 0 where
-    pub message : r .message ≡ c .message
-    pub answer : r .answer ≡ value waiting
-    pub units : acceptedOf (c .residence) ≡ value (unitsOf (acceptedOf (c .residence)))
-    pub asks : rules .request c ≡ add q (unitsOf (acceptedOf (c .residence)))
-    pub taken : (n : ℕ) → table ≡ refused n → ⊥
-
-  pub first-two : (x : RecordKind) → c .mode ≡ twoStep → kindOf (c .message) ≡ firstOf x q → Unrefused (rules .reply c table) → Kept (rules .reply c table)
-  first-two x o e fine =
-      rw is (go (acceptedOf (c .residence)) refl table refl (rw is at fine))
+  -- two-step, S set, or a Delay_Req: the message stays
+  first-two : (x : RecordKind) → c .mode ≡ twoStep → kindOf (c .message) ≡ firstOf x q → FirstCall twoStep (first-of x q) (rules .reply c table)
+  first-two x o e = rw (reply-is c table twoStep (firstOf x q) o e ∙ first-keeps c table x q) (go (acceptedOf (c .residence)) table)
     where
-      is : rules .reply c table ≡ keep c (acceptedOf (c .residence)) table
-      is = reply-is c table twoStep (firstOf x q) o e ∙ first-keeps c table x q
+      waits : (x : RecordKind) → FirstSays twoStep (clear (first-of x q)) (value waiting)
+      waits Sync = waiting-first
+      waits Delay = waiting-first
 
-      go : (a : Answer ℕ) → acceptedOf (c .residence) ≡ a → (t : Answer ℕ) → table ≡ t → Unrefused (keep c a t) → Kept (keep c a t)
-      go (refused n) p t z h = absurd (h n refl)
-      go (value u) p (refused n) z h = absurd (h n refl)
-      go (value u) p (value v) z h =
+      go : (a t : Answer ℕ) → FirstCall twoStep (first-of x q) (keep c a t)
+      go (refused n) t = not-taken twoStep (first-of x q) n e
+      go (value u) (refused n) = not-taken twoStep (first-of x q) n e
+      go (value u) (value v) = left twoStep (first-of x q) (value waiting) e (waits x) refl refl
+
+  -- two-step, S clear: S is set
+  sync-clear : c .mode ≡ twoStep → kindOf (c .message) ≡ sync q false → FirstCall twoStep (of-sync false) (rules .reply c table)
+  sync-clear o e = rw (reply-is c table twoStep (sync q false) o e) (go (acceptedOf (c .residence)))
+    where
+      m : Bears (c .message) 0 false q
+      m = is-sync (c .message) false q e
+
+      room : (u : ℕ) (t : Bool) → FirstCall twoStep (of-sync false) (createIn c u t)
+      room u true = not-taken twoStep (of-sync false) 12 e
+      room u false =
           record {
-            message = refl;
-            answer = refl;
-            units = p ∙ ap (λ (y : Answer ℕ). value (unitsOf y)) (sym p);
-            asks = request-is c twoStep (firstOf x q) o e ∙ first-asks (c .residence) x q ∙ rw p;
-            taken = λ n f. let y : _≡_ {A = ℕ} 0 1 = cc in omega arith;
+            says-it = created-first;
+            kind = sync-kind (withTwoStep (c .message)) true q (with-two-step-bears (c .message) 0 false q m);
+            pad = with-two-step-pad (c .message) 0 false q m ∙ same-pad (c .message);
           }
 
-  -- two-step, S clear: S is set, and the Follow_Up that leaves has the residence as its pad
-  pub record Created (r : Reply) : Type 0 where
-    pub kind : kindOf (r .message) ≡ sync q true
-    pub pad : padOf (r .message) ≡ padOf (c .message)
-    pub answer : r .answer ≡ value created
-    pub follow-up : kindOf (take 36 (r .output)) ≡ followUp q
-    pub follow-up-pad : padOf (take 36 (r .output)) ≡ pos (unitsOf (acceptedOf (c .residence)))
+      go : (a : Answer ℕ) → FirstCall twoStep (of-sync false) (create c a)
+      go (refused n) = not-taken twoStep (of-sync false) n e
+      go (value u) = room u (ltb (length (c .output)) 36)
 
-  pub sync-clear : c .mode ≡ twoStep → kindOf (c .message) ≡ sync q false → Unrefused (rules .reply c table) → Created (rules .reply c table)
-  sync-clear o e fine =
-      rw is (go (acceptedOf (c .residence)) refl (rw is at fine))
+  pub first-call : {k : Kind} (f : First q k) (m : Mode) → c .mode ≡ m → kindOf (c .message) ≡ k → FirstCall m f (rules .reply c table)
+  first-call f oneStep o e = first-one f o e
+  first-call (of-sync true) twoStep o e = first-two Sync o e
+  first-call (of-sync false) twoStep o e = sync-clear o e
+  first-call of-delay twoStep o e = first-two Delay o e
+
+  -- the Follow_Up that leaves a node which created it: its pad is the residence, which is far from the largest pad
+  pub record Created (r : Reply) : Type 0 where
+    pub kind : kindOf (take 36 (r .output)) ≡ followUp q
+    pub pad : padOf (take 36 (r .output)) ≡ pos (unitsOf (acceptedOf (c .residence)))
+    pub small : unitsOf (acceptedOf (c .residence)) < 2 ^ 62
+
+  pub sync-created :
+      c .mode ≡ twoStep → kindOf (c .message) ≡ sync q false → rules .reply c table .answer ≡ value created → Created (rules .reply c table)
+  sync-created o e w = rw is (go (acceptedOf (c .residence)) refl (rw is at w))
     where
       is : rules .reply c table ≡ create c (acceptedOf (c .residence))
       is = reply-is c table twoStep (sync q false) o e
@@ -160,44 +243,47 @@ module _ (c : Call) (table : Answer ℕ) (q : Identity) where
       m : Bears (c .message) 0 false q
       m = is-sync (c .message) false q e
 
-      room : (u : ℕ) → acceptedOf (c .residence) ≡ value u → (t : Bool) → Unrefused (createIn c u t) → Created (createIn c u t)
-      room u p true h = absurd (h 12 refl)
+      room : (u : ℕ) → acceptedOf (c .residence) ≡ value u → (t : Bool) → createIn c u t .answer ≡ value created → Created (createIn c u t)
+      room u p true h = absurd (not-both h)
       room u p false h =
           let s = c .message in
-          let small : u < 2 ^ 63 = omega (arith, below-limit (c .residence) u p) in
+          let low : u < 2 ^ 62 = omega (arith, below-limit (c .residence) u p) in
+          let small : u < 2 ^ 63 = omega arith in
           let out = followUpOf s u ++ drop 36 (c .output) in
           let first : take 36 out ≡ followUpOf s u = take-at (followUpOf s u) (drop 36 (c .output)) 36 (follow-up-length s 0 false q m u small) in
+          let units : u ≡ unitsOf (acceptedOf (c .residence)) = ap unitsOf (sym p) in
           record {
-            kind = sync-kind (withTwoStep s) true q (with-two-step-bears s 0 false q m);
-            pad = with-two-step-pad s 0 false q m;
-            answer = refl;
-            follow-up = ap kindOf first ∙ follow-up-kind (followUpOf s u) true q (follow-up-bears s 0 false q m u small);
-            follow-up-pad = ap padOf first ∙ follow-up-pad s 0 false q m u small ∙ ap (λ (x : Answer ℕ). pos (unitsOf x)) (sym p);
+            kind = ap kindOf first ∙ follow-up-kind (followUpOf s u) true q (follow-up-bears s 0 false q m u small);
+            pad = ap padOf first ∙ follow-up-pad s 0 false q m u small ∙ ap pos units;
+            small = omega (arith, units);
           }
 
-      go : (a : Answer ℕ) → acceptedOf (c .residence) ≡ a → Unrefused (create c a) → Created (create c a)
-      go (refused n) p h = absurd (h n refl)
+      go : (a : Answer ℕ) → acceptedOf (c .residence) ≡ a → create c a .answer ≡ value created → Created (create c a)
+      go (refused n) p h = absurd (not-both h)
       go (value u) p h = room u p (ltb (length (c .output)) 36) h
 
-  -- one-step: the second message passes
-  pub second-one : (x : RecordKind) → c .mode ≡ oneStep → kindOf (c .message) ≡ secondOf x q → rules .reply c table .message ≡ c .message
-  second-one x o e = ap (λ (r : Reply). r .message) (reply-is c table oneStep (secondOf x q) o e ∙ second-passes c x q)
-
-  -- two-step: the record's residence is added to it
-  pub record Added (x : RecordKind) (r : Reply) : Type 0 where
-    pub units : ℕ
-    pub found : table ≡ value units
+  -- a second message, where a record that is found has the residence u
+  pub record SecondCall (u : ℕ) (m : Mode) (x : RecordKind) (r : Reply) : Type 0 where
+    pub says-it : SecondSays m (r .answer)
     pub kind : kindOf (r .message) ≡ secondOf x q
-    pub pad : padOf (r .message) ≡ padOf (c .message) +ℤ pos units
+    pub pad : padOf (r .message) ≡ raised (padOf (c .message)) (when added (some (r .answer)) u)
 
-  pub second-two : (x : RecordKind) → c .mode ≡ twoStep → kindOf (c .message) ≡ secondOf x q → Unrefused (rules .reply c table) → Added x (rules .reply c table)
-  second-two x o e fine = rw is (go table refl (rw is at fine))
+  pub second-call :
+      (u : ℕ) (x : RecordKind) (m : Mode) → c .mode ≡ m → kindOf (c .message) ≡ secondOf x q
+      → (m ≡ twoStep → (v : ℕ) → table ≡ value v → v ≡ u)
+      → SecondCall u m x (rules .reply c table)
+  second-call u x oneStep o e found =
+      rw (reply-is c table oneStep (secondOf x q) o e ∙ second-passes c x q) (record { says-it = passed-second; kind = e; pad = same-pad (c .message) })
+  second-call u x twoStep o e found = rw (reply-is c table twoStep (secondOf x q) o e ∙ second-gathers c table x q) (go table refl)
     where
-      is : rules .reply c table ≡ gather c table
-      is = reply-is c table twoStep (secondOf x q) o e ∙ second-gathers c table x q
+      m : SoundPtp (c .message)
+      m = sound-ptp (c .message) q (ap kindIdentity e ∙ second-identity x q)
 
-      go : (t : Answer ℕ) → table ≡ t → Unrefused (gather c t) → Added x (gather c t)
-      go (refused n) p h = absurd (h n refl)
-      go (value u) p h =
-          let r = raised c added u (sound-ptp (c .message) q (ap kindIdentity e ∙ second-identity x q)) h in
-          record { units = u; found = p; kind = r .kind ∙ e; pad = r .pad }
+      go : (t : Answer ℕ) → table ≡ t → SecondCall u twoStep x (gather c t)
+      go (refused n) p = record { says-it = refused-second n; kind = e; pad = same-pad (c .message) }
+      go (value v) p =
+          record {
+            says-it = added-second;
+            kind = added-kind c added v m ∙ e;
+            pad = added-pad c added v m ∙ ap (raised (padOf (c .message))) (found refl v p);
+          }

@@ -20,7 +20,7 @@ use Rattle.octets.proofs.Puts.{length-put, getD-before, getD-behind, getD-there
 use Rattle.message.specs.Read.{isSubTlvLength, isSubTlv, subTlv, messageValue}
 use Rattle.message.specs.Write.{gAchHeader}
 use Rattle.message.proofs.Sound.{SoundHeader, SoundPtp, stated-length}
-use Rattle.scratch_pad.specs.Sum.{inRange}
+use Rattle.scratch_pad.proofs.Whole.{inRange}
 use Rattle.records.specs.declared.RecordKind.the-variants.{Sync}
 use Rattle.records.specs.declared.Identity.{Identity}
 use Rattle.rules.specs.Change.{padOf, withPad, withTwoStep, followUpFields, followUpOf}

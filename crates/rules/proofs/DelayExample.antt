@@ -20,11 +20,11 @@ use Rattle.records.specs.Node.{Event, tick, call, switchover, told, replied, ta
 use Rattle.image.specs.Image.{sound, ofSync, differ, imageOf}
 use Rattle.rules.specs.Change.{padOf}
 use Rattle.rules.specs.Rules.{oneStep, twoStep, Call, asItCame, addToPad, updated, passed, waiting, added, rules}
-use Rattle.rules.specs.Path.{Stop, Apart, Every, FirstWay, SecondWay, residences}
+use Rattle.rules.specs.Path.{Stop, Unrefused, Apart, Every, FirstWay, SecondWay, residences}
 use Rattle.rules.specs.Demand3.{Waiting}
 use Rattle.rules.proofs.Laws.{added-in-time, gone-at-third-tick}
 use Rattle.rules.proofs.PathSums.{delay-path-sum}
-use Rattle.rules.proofs.Samples.{numbered, octetsOf, stayed, spare, handedIn, recordOf, answers, visit, waits, other, apart}
+use Rattle.rules.proofs.Samples.{numbered, octetsOf, stayed, spare, handedIn, recordOf, answers, visit, unrefused, waits, other, apart}
 
 abbrev pub mine : Identity
 mine = record { kind = Delay; clock = 0x0001020304050607; port = 1; sequence = 258 }
@@ -165,11 +165,15 @@ all-apart = (
   ),
 )
 
+none-refused : Every Unrefused path
+unfolding same holds sound ofSync differ
+none-refused = (unrefused first refl refl, (unrefused second refl refl, (unrefused third refl refl, tt)))
+
 -- 98,303,995 + 16,384,011 = -5 + 11 + 1,750 * 65,536
 sum : padOf (request (pos 98303995)) +ℤ padOf (response (pos 16384011)) ≡ padOf (request (negsuc 4)) +ℤ padOf (response (pos 11)) +ℤ pos (residences path)
 sum =
-    delay-path-sum mine (request (negsuc 4)) (request (pos 98303995)) (response (pos 11)) (response (pos 16384011)) path back refl refl all-apart there
-    reversed returning
+    delay-path-sum mine (request (negsuc 4)) (request (pos 98303995)) (response (pos 11)) (response (pos 16384011)) path back refl refl all-apart
+    none-refused there reversed returning refl refl
 
 in-numbers : pos 98303995 +ℤ pos 16384011 ≡ negsuc 4 +ℤ pos 11 +ℤ pos (1750 * 65536)
 in-numbers = sum

@@ -23,7 +23,7 @@ use Rattle.records.proofs.Alone.{result-at, found-in-time, gone-at-third}
 use Rattle.image.proofs.Returns.{switched-keeps}
 use Rattle.rules.specs.Rules.{Kind, sync, followUp, delayReq, delayResp, firstOf, secondOf, timed, untimed, unreadable, kindIdentity, kindOf, Mode, oneStep, twoStep, Call, Reply, waiting, asItCame, keep, gather, keepRequest, requestBy, replyBy, rules}
 use Rattle.rules.specs.Demand3.{OrderDoesNotMatter, Waiting, AddedInTime, GoneAtThirdTick}
-use Rattle.rules.proofs.Calls.{reply-is, request-is, first-keeps, first-asks, first-two, second-gathers, second-asks}
+use Rattle.rules.proofs.Calls.{reply-is, request-is, first-keeps, first-asks, second-gathers, second-asks}
 
 -- a call asks only for the record of its own identity
 own-kept : (p q : Identity) (a : Answer ℕ) → asked (keepRequest p a) ≡ some q → some p ≡ some q
@@ -122,13 +122,16 @@ module _ (t : Slots) (es : List (Event Call)) (q : Identity) (u i j : ℕ) (d : 
       let c = w .handed in
       let T = final rules t (take i es) in
       let asks = request-is c twoStep (firstOf k q) (w .two-step) (w .is-first) ∙ first-asks (c .residence) k q ∙ ap (keepRequest q) (w .units) in
-      let came = came-to t es i c (asItCame c (value waiting)) (w .here) (w .outcome) in
-      let fine = first-two c (tableAnswer (rules .request c) T) q k (w .two-step) (w .is-first) (λ n e. not-both (sym (ap (λ (r : Reply). r .answer) came ∙ e))) in
+      let came =
+      came-to t es i c (asItCame c (value waiting)) (w .here) (w .outcome)
+      ∙ reply-is c (tableAnswer (rules .request c) T) twoStep (firstOf k q) (w .two-step) (w .is-first)
+      ∙ first-keeps c (tableAnswer (rules .request c) T) k q
+      ∙ (λ x. keep c (w .units x) (tableAnswer (asks x) T)) in
       record {
         adder = c;
         here = w .here;
         asks = asks;
-        taken = put-in q u T (λ n e. fine .taken n (ap (λ (a : Request). tableAnswer a T) asks ∙ e));
+        taken = put-in q u T (λ n e. not-both (sym (ap (λ (r : Reply). r .answer) (came ∙ ap (keep c (value u)) e))));
         before = w .then;
         alone = w .between;
       }

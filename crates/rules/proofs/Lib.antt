@@ -5,10 +5,12 @@ pub mod Calls
 pub mod Laws
 pub mod Serves
 pub mod Crossing
+pub mod Pads
 pub mod PathSums
 pub mod Samples
 pub mod PathExample
 pub mod OrderExample
 pub mod BranchExamples
+pub mod LargestExample
 pub mod DelayExample
 pub mod ServiceExample

@@ -18,11 +18,11 @@ use Rattle.records.specs.Node.{tick, call, switchover, Result, told, replied, t
 use Rattle.image.specs.Image.{sound, ofSync, differ}
 use Rattle.rules.specs.Change.{padOf}
 use Rattle.rules.specs.Rules.{oneStep, twoStep, Call, Word, addToPad, updated, passed, created, waiting, added, rules}
-use Rattle.rules.specs.Path.{Stop, Apart, Every, FirstWay, SecondWay, FollowUps, born, residences}
+use Rattle.rules.specs.Path.{Stop, Unrefused, Apart, Every, FirstWay, SecondWay, FollowUps, born, residences}
 use Rattle.rules.specs.Demand3.{Waiting}
 use Rattle.rules.proofs.Laws.{added-in-time}
 use Rattle.rules.proofs.PathSums.{path-sum}
-use Rattle.rules.proofs.Samples.{numbered, octetsOf, stayed, spare, handedIn, recordOf, answers, after, visit, waits, other, apart}
+use Rattle.rules.proofs.Samples.{numbered, octetsOf, stayed, spare, handedIn, recordOf, answers, after, visit, unrefused, waits, other, apart}
 
 -- the Sync's identity, and two others
 abbrev pub mine : Identity
@@ -185,7 +185,7 @@ follow-up-way = SecondWay.cross 8 refl (visit third 8 followUpThird added (aFoll
 follow-ups : FollowUps mine false path (pos 0) (padOf (aFollowUp 16384000))
 unfolding same holds sound ofSync differ
 follow-ups =
-    born (first ∷ []) second {r = after created (aSync true 98304000) left} {last = aFollowUp 16384000} refl refl
+    born (first ∷ []) second {r = after created (aSync true 98304000) left} {last = aFollowUp 16384000} (refl, tt) refl refl refl
     (List·Permᴰ·cons refl List·Permᴰ·nil) follow-up-way
 
 third-apart : Apart mine third
@@ -204,9 +204,13 @@ all-apart = (
   ),
 )
 
+none-refused : Every Unrefused path
+unfolding same holds sound ofSync differ
+none-refused = (unrefused first refl refl, (unrefused second refl refl, (unrefused third refl refl, tt)))
+
 -- the theorem's equation for this path, and its numbers: 98,304,000 + 16,384,000 = 0 + 0 + 114,688,000
 sum : padOf (aSync true 98304000) +ℤ padOf (aFollowUp 16384000) ≡ padOf (aSync false 0) +ℤ pos 0 +ℤ pos (residences path)
-sum = path-sum mine false (aSync false 0) (aSync true 98304000) path (pos 0) (padOf (aFollowUp 16384000)) refl all-apart sync-way follow-ups
+sum = path-sum mine false (aSync false 0) (aSync true 98304000) path (pos 0) (padOf (aFollowUp 16384000)) refl all-apart none-refused sync-way follow-ups refl refl
 
 pads : (padOf (aSync true 98304000) ≡ pos 98304000) × (padOf (aFollowUp 16384000) ≡ pos 16384000) × (padOf (aSync false 0) ≡ pos 0)
 pads = (refl, refl, refl)

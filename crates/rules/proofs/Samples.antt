@@ -9,8 +9,7 @@ use mathlib.Core.Option.{Option, none, some}
 use native.Mathlib.Omega.{arith}
 use lib.IntN.{ℤ}
 use lib.ListN.{getElem?, replicate}
-use Rattle.refusal.specs.Answer.{Answer, value}
-use Rattle.refusal.proofs.Answers.{not-both}
+use Rattle.refusal.specs.Answer.{Answer, value, refused}
 use Rattle.residence.specs.declared.Residence.{Residence}
 use Rattle.residence.specs.declared.Residence.the-variants.{Units}
 use Rattle.residence.specs.Residence.{acceptedOf}
@@ -21,9 +20,10 @@ use Rattle.records.specs.declared.Record.{Record}
 use Rattle.records.specs.Slots.{same, find}
 use Rattle.records.specs.Node.{Event, tick, call, switchover, Result, told, replied, taken-over}
 use Rattle.records.proofs.Holding.{same-refl}
-use Rattle.rules.specs.Rules.{firstOf, secondOf, kindOf, kindIdentity, Mode, twoStep, Call, Word, waiting, asItCame, Reply}
-use Rattle.rules.specs.Path.{Stop, ReplyAt, Visit, Apart}
+use Rattle.rules.specs.Rules.{firstOf, secondOf, kindOf, kindIdentity, Mode, twoStep, Call, Word, created, waiting, asItCame, Reply}
+use Rattle.rules.specs.Path.{Stop, ReplyAt, firstAnswer, secondAnswer, Unrefused, Visit, Apart}
 use Rattle.rules.specs.Demand3.{Waiting}
+use Rattle.rules.proofs.Calls.{says}
 
 -- the identity of document 01's cases, and others of its port: port 00 01 02 03 04 05 06 07 00 01
 abbrev pub numbered : ℕ → Identity
@@ -63,7 +63,7 @@ answered taken-over = taken-over
 abbrev pub answers : List (Result Reply) → List (Result (Answer Word))
 answers rs = map answered rs
 
--- a call that is not refused, from what computing shows
+-- what comes of a call, from what computing shows
 abbrev pub after : Word → List ℕ → List ℕ → Reply
 after w message output = record { answer = value w; message = message; output = output }
 
@@ -74,7 +74,19 @@ pub visit :
     → ReplyAt n k (after w m out)
     → Visit n k (c .message) (after w m out)
 visit n k c w m out here mode outcome =
-    record { handed = c; here = here; mode = mode; octets = refl; outcome = outcome; unrefused = λ a e. not-both (sym e) }
+    record { handed = c; here = here; mode = mode; octets = refl; outcome = outcome }
+
+-- answers that are no refusal, and one that is not "created"
+abbrev isRefused : Option (Answer Word) → Bool
+isRefused none = false
+isRefused (some (value w)) = false
+isRefused (some (refused n)) = true
+
+pub unrefused : (n : Stop) → isRefused (firstAnswer n) ≡ false → isRefused (secondAnswer n) ≡ false → Unrefused n
+unrefused n f g = (λ a e. true≢false (sym (ap isRefused e) ∙ f), λ a e. true≢false (sym (ap isRefused e) ∙ g))
+
+pub not-created : {o : Option (Answer Word)} → says created o ≡ false → o ≡ some (value created) → ⊥
+not-created f e = true≢false (sym (ap (says created) e) ∙ f)
 
 -- a Sync or a Delay_Req that waits, and its second message, at their places of a node with no other call of the identity, from what
 -- computing shows

@@ -4,13 +4,14 @@
 -- without any is one of these lists.
 use Prim.Native.Nat.{ℕ, _+_, _<_, _≤_}
 use mathlib.Core.Path.{_≡_}
-use mathlib.Core.Bool.{Bool}
+use mathlib.Core.Bool.{Bool, false}
 use mathlib.Core.List.{List, List·Permᴰ}
 use mathlib.Core.Option.{none, some}
 use lib.IntN.{ℤ, pos, _+ℤ_}
 use lib.ListN.{getElem?, take}
 use Rattle.refusal.specs.Answer.{value, refused}
 use Rattle.residence.specs.Residence.{acceptedOf}
+use Rattle.scratch_pad.specs.Sum.{tooBig}
 use Rattle.records.specs.declared.Identity.{Identity}
 use Rattle.records.specs.Slots.{Slots, find}
 use Rattle.records.specs.Node.{Event, call, replied, run, final}
@@ -18,19 +19,23 @@ use Rattle.records.specs.Order.{ticks, OrderFree}
 use Rattle.rules.specs.Change.{padOf}
 use Rattle.rules.specs.Rules.{sync, delayReq, delayResp, firstOf, secondOf, kindOf, kindIdentity}
 use Rattle.rules.specs.Rules.{twoStep, Call, waiting, added, asItCame, addToPad, rules}
-use Rattle.rules.specs.Path.{Stop, Apart, Every, FirstWay, SecondWay, FollowUps, residences}
+use Rattle.rules.specs.Path.{Stop, Unrefused, Apart, Every, FirstWay, SecondWay, FollowUps, residences}
 
--- First half. "Then, whatever other calls, refused ones too, and ticks those nodes get, the sum of the final pads is the sum of the
--- starting pads plus every stay of the Sync, a missing Follow_Up counting 0." The sums are of whole numbers; the path has any
--- length, also none. That the Follow_Up reaches each node after the Sync and before its record there ages out need not be asked:
--- a call on it that is early or late is refused with 15, and `Visit` has that no call on the two is refused.
+-- First half. "Let no call on the two be refused .. Then, whatever other calls, refused ones too, and ticks those nodes get, the sum of
+-- the final pads is the sum of the starting pads plus every stay of the Sync, a missing Follow_Up counting 0." It "holds where both final
+-- pads are below 2^63-1" (document 02, W-205). The sums are of whole numbers; the path has any length, also none. That the Follow_Up
+-- reaches each node after the Sync and before its record there ages out need not be asked: a call on it that is early or late is refused
+-- with 15.
 abbrev pub PathSum : Type 0
 PathSum =
     (q : Identity) (s : Bool) (start last : List ℕ) (path : List Stop) (first second : ℤ)
     → kindOf start ≡ sync q s
     → Every (Apart q) path
+    → Every Unrefused path
     → FirstWay start path last
     → FollowUps q s path first second
+    → tooBig (padOf last) ≡ false
+    → tooBig second ≡ false
     → padOf last +ℤ second ≡ padOf start +ℤ first +ℤ pos (residences path)
 
 -- "Demand 3 holds for a Delay_Req and its Delay_Resp where both cross the same nodes, each once, with the Delay_Resp's pad as the second"
@@ -41,9 +46,12 @@ DelayPathSum =
     → kindOf request ≡ delayReq q
     → kindOf response ≡ delayResp q
     → Every (Apart q) path
+    → Every Unrefused path
     → FirstWay request path last
     → List·Permᴰ back path
     → SecondWay response back end
+    → tooBig (padOf last) ≡ false
+    → tooBig (padOf end) ≡ false
     → padOf last +ℤ padOf end ≡ padOf request +ℤ padOf response +ℤ pos (residences path)
 
 -- Second half. "take every list of node calls, refused ones too, and ticks, from any table, and every other order of it that keeps
@@ -67,7 +75,7 @@ pub record Waiting (t : Slots) (es : List (Event Call)) (q : Identity) (u i j : 
   pub is-second : kindOf (d .message) ≡ secondOf (q .kind) q
   pub between : (k : ℕ) (c : Call) → i < k → k < j → getElem? es k ≡ some (call c) → kindIdentity (kindOf (c .message)) ≡ some q → ⊥
 
--- up to the second tick the second message is added to, with the first one's residence, or refused with 11 where the sum does not fit
+-- up to the second tick the second message is added to, with the first one's residence
 abbrev pub AddedInTime : Type 0
 AddedInTime =
     (t : Slots) (es : List (Event Call)) (q : Identity) (u i j : ℕ) (d : Call)

@@ -12,13 +12,12 @@ use Rattle.refusal.specs.Answer.{Answer, value, refused}
 use Rattle.residence.specs.Residence.{acceptedOf}
 use Rattle.records.specs.declared.Identity.{Identity}
 use Rattle.records.specs.Slots.{Slots, find}
-use Rattle.records.specs.Node.{Event, tick, call, switchover, replied, run}
+use Rattle.records.specs.Node.{Event, tick, call, switchover, Result, told, replied, taken-over, run}
 use Rattle.rules.specs.Change.{padOf}
-use Rattle.rules.specs.Rules.{Kind, sync, delayReq, followUp, kindOf, kindIdentity, Mode, Call, created, Reply, rules}
+use Rattle.rules.specs.Rules.{Kind, sync, delayReq, followUp, kindOf, kindIdentity, Mode, Call, Word, created, Reply, rules}
 
 -- A node of the path: "each in one fixed mode with a table of its own", its list of calls, ticks and switchovers, and the places in
--- it of the first message's call and, where the second crosses this node, of the second's. (At a node that it does not cross nothing is
--- asked of that place.)
+-- it of the first message's call and, where the second crosses this node, of the second's.
 pub record Stop : Type 0 where
   pub mode : Mode
   pub table : Slots
@@ -26,18 +25,47 @@ pub record Stop : Type 0 where
   pub firstPlace : ℕ
   pub secondPlace : Option ℕ
 
--- what came of the call at place k of the node's whole list
-abbrev pub ReplyAt : Stop → ℕ → Reply → Type 0
-ReplyAt n k r = getElem? (run rules (n .table) (n .events)) k ≡ some (replied r)
+-- what came of the event at place k of the node's whole list
+abbrev pub resultAt : Stop → ℕ → Option (Result Reply)
+resultAt n k = getElem? (run rules (n .table) (n .events)) k
 
--- The call at place k hands in the octets m, in this node's mode; it is not refused, and r comes of it.
+abbrev pub ReplyAt : Stop → ℕ → Reply → Type 0
+ReplyAt n k r = resultAt n k ≡ some (replied r)
+
+-- the node's answer to the first message, and to the second where that crosses it
+abbrev pub answerIn : Option (Result Reply) → Option (Answer Word)
+answerIn none = none
+answerIn (some (told n)) = none
+answerIn (some (replied r)) = some (r .answer)
+answerIn (some taken-over) = none
+
+abbrev pub firstAnswer : Stop → Option (Answer Word)
+firstAnswer n = answerIn (resultAt n (n .firstPlace))
+
+abbrev pub answerAt : Stop → Option ℕ → Option (Answer Word)
+answerAt n none = none
+answerAt n (some k) = answerIn (resultAt n k)
+
+abbrev pub secondAnswer : Stop → Option (Answer Word)
+secondAnswer n = answerAt n (n .secondPlace)
+
+-- "Let no call on the two be refused": none on the first, and none on the second
+abbrev pub FirstUnrefused : Stop → Type 0
+FirstUnrefused n = (a : ℕ) → firstAnswer n ≡ some (refused a) → ⊥
+
+abbrev pub SecondUnrefused : Stop → Type 0
+SecondUnrefused n = (a : ℕ) → secondAnswer n ≡ some (refused a) → ⊥
+
+abbrev pub Unrefused : Stop → Type 0
+Unrefused n = FirstUnrefused n × SecondUnrefused n
+
+-- The call at place k hands in the octets m, in this node's mode, and r comes of it.
 pub record Visit (n : Stop) (k : ℕ) (m : List ℕ) (r : Reply) : Type 0 where
   pub handed : Call
   pub here : getElem? (n .events) k ≡ some (call handed)
   pub mode : handed .mode ≡ n .mode
   pub octets : handed .message ≡ m
   pub outcome : ReplyAt n k r
-  pub unrefused : (a : ℕ) → r .answer ≡ refused a → ⊥
 
 -- "The list's starting table holds no record with the Sync's port and sequence, and no message in the list except the Sync and
 -- the Follow_Up bears them." Only the identity is excluded: an unreadable message, or one of another PTPType, may stand there, and so may
@@ -79,6 +107,10 @@ pub data SecondWay : List ℕ → List Stop → List ℕ → Type 0 where
       → SecondWay (r .message) ns last
       → SecondWay f (n ∷ ns) last
 
+-- the second message does not cross the node
+abbrev pub Uncrossed : Stop → Type 0
+Uncrossed n = n .secondPlace ≡ none
+
 -- The Follow_Up of a Sync with this S over a path, by its starting pad and its final one.
 pub data FollowUps (q : Identity) : Bool → List Stop → ℤ → ℤ → Type 0 where
   -- "With S set, its Follow_Up crosses the same nodes once each", in any order; it "is any readable message of PTPType 8 with
@@ -93,6 +125,8 @@ pub data FollowUps (q : Identity) : Bool → List Stop → ℤ → ℤ → Type 
   -- any order; "a created one leaves its node as the 36 octets written"
   born :
       (before : List Stop) (n : Stop) {after fs : List Stop} {r : Reply} {last : List ℕ}
+      → Every Uncrossed before
+      → Uncrossed n
       → ReplyAt n (n .firstPlace) r
       → r .answer ≡ value created
       → List·Permᴰ fs after
@@ -101,7 +135,7 @@ pub data FollowUps (q : Identity) : Bool → List Stop → ℤ → ℤ → Type 
   -- "a missing Follow_Up counting 0": no node creates one
   never :
       {ns : List Stop}
-      → Every (λ n. (r : Reply) → ReplyAt n (n .firstPlace) r → r .answer ≡ value created → ⊥) ns
+      → Every (λ n. Uncrossed n × (firstAnswer n ≡ some (value created) → ⊥)) ns
       → FollowUps q false ns (pos 0) (pos 0)
 
 -- "the stays those of the Sync's calls in pad units", or of the Delay_Req's

@@ -7,12 +7,10 @@ use native.Mathlib.Omega.{arith}
 use borrow.Author.Tests.{ltb-true, ltb-false, lt-ltb, le-ltb}
 use lib.Dec.{ltb}
 use lib.IntN.{ℤ, pos, negsuc, _+ℤ_, subℕ}
+use lib.Signed.{mag}
 use mir.Syntax.{w64}
 use mir.Val.{SFits, toZ, ofZ}
-use mir.ValLaws.{toZ-ofZ}
-use Rattle.scratch_pad.specs.Sum.{inRange, sumOf}
 use Rattle.scratch_pad.specs.Offset.{offset, fromOffset}
-use Rattle.refusal.specs.Answer.{value}
 
 abbrev pub above : ℤ → ℕ
 above (pos n) = n
@@ -42,18 +40,14 @@ pub is : (a b : ℕ) (w : ℤ) → a + below w ≡ b + above w → subℕ a b �
 is a b (pos n) h = rw (le-ltb a b (omega arith)) (ap pos (omega arith))
 is a b (negsuc n) h = rw (lt-ltb a b (omega arith)) (ap negsuc (omega arith))
 
--- the range: a is the number and 2 ^ 63
+-- the signed 64-bit range: mag n is n, and mag (- n - 1) is n too
+abbrev pub inRange : ℤ → Bool
+inRange z = ltb (mag z) (2 ^ 63)
+
+-- a is the number and 2 ^ 63
 pub in-range : (w : ℤ) (a : ℕ) → a + below w ≡ 2 ^ 63 + above w → a < 2 ^ 64 → inRange w ≡ true
 in-range (pos n) a h l = lt-ltb n (2 ^ 63) (omega arith)
 in-range (negsuc n) a h l = lt-ltb n (2 ^ 63) (omega arith)
-
-pub too-high : (w : ℤ) (a : ℕ) → a + below w ≡ 2 ^ 63 + above w → 2 ^ 64 ≤ a → inRange w ≡ false
-too-high (pos n) a h l = le-ltb n (2 ^ 63) (omega arith)
-too-high (negsuc n) a h l = absurd (omega arith)
-
-pub too-low : (w : ℤ) → 2 ^ 63 + above w < below w → inRange w ≡ false
-too-low (pos n) l = absurd (omega arith)
-too-low (negsuc n) l = le-ltb n (2 ^ 63) (omega arith)
 
 -- the number with its offset, and its bits
 pub offset-parts : (z : ℤ) → SFits w64 z → offset z + below z ≡ above z + 2 ^ 63
@@ -80,8 +74,3 @@ pub record Parts (z y : ℤ) (a b : ℕ) : Type 0 where
   pub left : a + below z ≡ above z + 2 ^ 63
   pub right : b + below y ≡ above y + 2 ^ 63
   pub sum : above (z +ℤ y) + (below z + below y) ≡ below (z +ℤ y) + (above z + above y)
-
--- the answer of a sum: r is what the code made of the sum a with its offset
-pub summed : (z y r : ℤ) (a : ℕ) → SFits w64 r → r ≡ fromOffset a → a + below (z +ℤ y) ≡ 2 ^ 63 + above (z +ℤ y) → a < 2 ^ 64 → value (toZ w64 (ofZ w64 r)) ≡ sumOf z y
-summed z y r a f e h l =
-    rw (toZ-ofZ w64 r f, e, is a (2 ^ 63) (z +ℤ y) h, in-range (z +ℤ y) a h l)

@@ -1,10 +1,10 @@
-// Sums on the Scratch Pad: a residence onto a pad, and two pads. No sum overflows on the way.
+// Sums on the Scratch Pad: a residence onto a pad, and two pads. No sum overflows on the way. The
+// largest pad means that the correction cannot be represented (IEEE 1588), and stays.
 ghost use mathlib.Core.Path.{_≡_};
-ghost use lib.IntN.{pos};
-ghost use Rattle.scratch_pad.specs.Sum.{sumOf, sumAnswer};
+ghost use Rattle.scratch_pad.specs.Sum.{raised, padSum, sumAnswer};
 ghost use Rattle.scratch_pad.specs.Offset.{offset, fromOffset};
 
-// The sum, or the number of the refusal.
+// The sum of two pads, or the number of the refusal.
 pub enum Sum {
     Of(i64),
     Refused(u8),
@@ -33,29 +33,37 @@ fn from_offset(b: u64) -> i64
     }
 }
 
-// A pad and a residence in pad units; refusal 11 outside the range.
-pub fn add_residence(pad: i64, units: u64) -> Sum
-    ensures { λ r. ⌜ sumAnswer r ≡ sumOf pad (pos units) ⌝ }
+// 2^63 - 1, and the same with its offset.
+pub const LARGEST: i64 = 0x7FFF_FFFF_FFFF_FFFF;
+
+const LARGEST_OFFSET: u64 = 0xFFFF_FFFF_FFFF_FFFF;
+
+// A pad and a residence in pad units: LARGEST where the sum is that or more.
+pub fn add_residence(pad: i64, units: u64) -> i64
+    ensures { λ r. ⌜ r ≡ raised pad units ⌝ }
 {
     let b = to_offset(pad);
-    if 0xFFFF_FFFF_FFFF_FFFF - b < units {
-        return Sum::Refused(refusal::SUM_OUT_OF_RANGE);
+    if LARGEST_OFFSET - b < units {
+        return LARGEST;
     }
-    Sum::Of(from_offset(b + units))
+    from_offset(b + units)
 }
 
-// Two pads; refusal 11 outside the range.
+// Two pads: LARGEST where either is that, or their sum is that or more; refusal 11 where the sum
+// is below -2^63.
 pub fn add_pads(first: i64, second: i64) -> Sum
-    ensures { λ r. ⌜ sumAnswer r ≡ sumOf first second ⌝ }
+    ensures { λ r. ⌜ sumAnswer r ≡ padSum first second ⌝ }
 {
     let a = to_offset(first);
     let b = to_offset(second);
+    if a == LARGEST_OFFSET {
+        return Sum::Of(LARGEST);
+    }
+    if b == LARGEST_OFFSET {
+        return Sum::Of(LARGEST);
+    }
     if 0x8000_0000_0000_0000 <= b {
-        let more = b - 0x8000_0000_0000_0000;
-        if 0xFFFF_FFFF_FFFF_FFFF - a < more {
-            return Sum::Refused(refusal::SUM_OUT_OF_RANGE);
-        }
-        return Sum::Of(from_offset(a + more));
+        return Sum::Of(add_residence(first, b - 0x8000_0000_0000_0000));
     }
     let less = 0x8000_0000_0000_0000 - b;
     if a < less {

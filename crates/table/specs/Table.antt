@@ -1,6 +1,5 @@
 -- The table's operations: each gives its answer, in document 01's numbers, with the slots afterwards.
 use Prim.Native.Nat.{ℕ}
-use mathlib.Core.Bool.{true}
 use Rattle.refusal.specs.Answer.{Answer, value, refused}
 use Rattle.records.specs.declared.Identity.{Identity}
 use Rattle.records.specs.Slots.{Slots, Outcome, ticked, emptied}
@@ -41,7 +40,7 @@ counted r = record { answer = value (r .emptied); slots = slotsOf (r .table) }
 
 -- what adding, collecting and a tick come to
 abbrev pub requestOf : Request → Slots → Outcome
-requestOf q t = record { answer = tableAnswer q t; slots = tableAfter (λ u. true) q t }
+requestOf q t = record { answer = tableAnswer q t; slots = tableAfter q t }
 
 abbrev pub addOf : Identity → ℕ → Slots → Outcome
 addOf q u t = requestOf (add q u) t

@@ -10,7 +10,7 @@ use Rattle.message.specs.declared.fields.SubTlv.{SubTlv}
 use Rattle.reader.specs.declared.Reading.{Reading}
 use Rattle.message.specs.Read.{ptp}
 use Rattle.reader.specs.Answers.{readAnswer}
-use Rattle.scratch_pad.specs.Sum.{sumOf, sumAnswer}
+use Rattle.scratch_pad.specs.Sum.{padSum, sumAnswer}
 use borrow.Author.Tests.{not-true, not-false}
 use mathlib.Core.Bool.{true, false, not}
 use Rattle.egress.specs.Join.{isPair, joinBy}
@@ -27,10 +27,10 @@ paired : (c : tie.After-are-pair) → not (c .are-pair .result) ≡ false → is
 paired c e = sym (c .are-pair .ensures) ∙ not-false (c .are-pair .result) e
 
 -- the callee's sum is that of the two pads
-summed : (c : tie.After-add-pads) → sumAnswer (c .add-pads .result) ≡ sumOf (c .before .before .before .before .before .before .before .before .args .h .pad) (c .before .before .before .before .before .before .follow-up .given .0 .0 .pad)
+summed : (c : tie.After-add-pads) → sumAnswer (c .add-pads .result) ≡ padSum (c .before .before .before .before .before .before .before .before .args .h .pad) (c .before .before .before .before .before .before .follow-up .given .0 .0 .pad)
 summed c =
     c .add-pads .ensures
-    ∙ (λ i. sumOf (toZ-ofZ w64 (c .before .before .before .before .before .before .before .before .args .h .pad) (record { sfits = c .before .before .struct-told .given .1 .0 .1 }) i) (toZ-ofZ w64 (c .before .before .before .before .before .before .follow-up .given .0 .0 .pad) (record { sfits = c .before .struct-told2 .given .1 .0 .1 }) i))
+    ∙ (λ i. padSum (toZ-ofZ w64 (c .before .before .before .before .before .before .before .before .args .h .pad) (record { sfits = c .before .before .struct-told .given .1 .0 .1 }) i) (toZ-ofZ w64 (c .before .before .before .before .before .before .follow-up .given .0 .0 .pad) (record { sfits = c .before .struct-told2 .given .1 .0 .1 }) i))
 
 enum-known-follow-up : tie.Need-enum-known-follow-up
 enum-known-follow-up c = search needs

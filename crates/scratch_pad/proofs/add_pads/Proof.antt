@@ -1,13 +1,17 @@
 -- `add_pads` meets its contract: `known` says in naturals what the two offsets are, and each answer is linear from there.
 -- Assumes nothing.
 use native.Mathlib.Omega.{arith}
-use Prim.Native.Nat.{_+_, _-_, _^_}
-use mathlib.Core.Path.{ap, _∙_}
-use lib.IntN.{_+ℤ_}
+use Prim.Native.Nat.{ℕ, _+_, _-_, _<_, _^_}
+use mathlib.Core.Path.{_≡_, sym, ap, _∙_}
+use mathlib.Core.Bool.{or-true}
+use lib.IntN.{ℤ, _+ℤ_}
 use mir.Syntax.{w64}
 use mir.ValLaws.{toZ-ofZ}
+use Rattle.refusal.specs.Answer.{value, refuse}
+use Rattle.scratch_pad.specs.Sum.{tooBig, tooLow, held, raised, padSum}
 use Rattle.scratch_pad.specs.Offset.{offset}
-use Rattle.scratch_pad.proofs.Whole.{Parts, parts, offset-parts, summed, too-high, too-low}
+use Rattle.scratch_pad.proofs.Whole.{Parts, parts, offset-parts}
+use Rattle.scratch_pad.proofs.Held.{held-sum, at-largest, not-largest, not-negative, not-low, low}
 use borrow.Author.Needs.{needs}
 use Rattle.scratch_pad.proofs.add_pads.Statement.{statement}
 use Rattle.scratch_pad.proofs.add_pads.Tie as tie
@@ -21,69 +25,66 @@ known c =
     let m = offset-parts (s .args .second) (s .fits .second) in
     record { left = omega arith; right = omega arith; sum = parts (s .args .first) (s .args .second) }
 
-to-offset-requires : tie.Need-to-offset-requires
-to-offset-requires c κs = search needs
-
-to-offset-requires-2 : tie.Need-to-offset-requires-2
-to-offset-requires-2 c κs = search needs
-
-sub-if2 : tie.Need-sub-if2
-sub-if2 c = search needs
+-- neither pad is the largest
+ordinary : (z y : ℤ) (a b : ℕ) → Parts z y a b → a < 2 ^ 64 - 1 → b < 2 ^ 64 - 1 → padSum z y ≡ refuse 11 (tooLow (z +ℤ y)) (value (held (z +ℤ y)))
+ordinary z y a b k l m = rw (not-largest z a (k .left) l, not-largest y b (k .right) m)
 
 returns : tie.Need-returns
 returns c =
-    let k = known (c .before .before) in
-    let a = c .before .before .before .to-offset .result in
-    let b = c .before .before .to-offset2 .result in
-    let s = c .before .before .before .before .args in
-    rw (too-high (s .first +ℤ s .second) (a + (b - 2 ^ 63)) (omega arith) (omega arith))
-
-add-from-offset : tie.Need-add-from-offset
-add-from-offset c = search needs
-
-from-offset-requires : tie.Need-from-offset-requires
-from-offset-requires c κs = search needs
+    let p = c .before in
+    rw (at-largest (p .before .before .args .first) (p .before .to-offset .result) (known p .left) (omega arith))
 
 returns-2 : tie.Need-returns-2
 returns-2 c =
-    let k = known (c .before .before .before) in
-    let a = c .before .before .before .before .to-offset .result in
-    let b = c .before .before .before .to-offset2 .result in
-    let s = c .before .before .before .before .before .args in
-    summed (s .first) (s .second) (c .from-offset .result) (a + (b - 2 ^ 63)) (record { sfits = c .from-offset .ok }) (c .from-offset .ensures) (omega arith) (omega arith)
+    let p = c .before .before in
+    let s = p .before .before .args in
+    rw (at-largest (s .second) (p .to-offset2 .result) (known p .right) (omega arith), or-true (tooBig (s .first)))
 
-sub-less : tie.Need-sub-less
-sub-less c = search needs
-
+-- the second pad is not below 0
 returns-3 : tie.Need-returns-3
 returns-3 c =
-    let k = known (c .before .before) in
-    let s = c .before .before .before .before .args in
-    rw (too-low (s .first +ℤ s .second) (omega arith))
+    let p = c .before .before .before .before in
+    let k = known p in
+    let a = p .before .to-offset .result in
+    let b = p .to-offset2 .result in
+    let s = p .before .before .args in
+    let r = c .add-residence .result in
+    let sum : r ≡ held (s .first +ℤ s .second) =
+    c .add-residence .ensures
+    ∙ ap (λ (z : ℤ). raised z (b - 2 ^ 63)) (toZ-ofZ w64 (s .first) (p .before .before .fits .first))
+    ∙ ap (λ (y : ℤ). held (s .first +ℤ y)) (sym (not-negative (s .second) b (k .right) (omega arith))) in
+    ap value (toZ-ofZ w64 r (record { sfits = c .add-residence .ok }) ∙ sum)
+    ∙ sym (ordinary (s .first) (s .second) a b k (omega arith) (omega arith) ∙ rw (not-low (s .first +ℤ s .second) (a + (b - 2 ^ 63)) (omega arith)))
 
-from-offset-requires-2 : tie.Need-from-offset-requires-2
-from-offset-requires-2 c κs = search needs
-
+-- it is below 0, and the sum below the range, or not
 returns-4 : tie.Need-returns-4
 returns-4 c =
-    let k = known (c .before .before .before) in
-    let a = c .before .before .before .before .to-offset .result in
-    let b = c .before .before .before .to-offset2 .result in
-    let s = c .before .before .before .before .before .args in
-    summed (s .first) (s .second) (c .from-offset2 .result) (a - (2 ^ 63 - b)) (record { sfits = c .from-offset2 .ok }) (c .from-offset2 .ensures) (omega arith) (omega arith)
+    let p = c .before .before .before .before in
+    let k = known p in
+    let s = p .before .before .args in
+    sym (ordinary (s .first) (s .second) (p .before .to-offset .result) (p .to-offset2 .result) k (omega arith) (omega arith) ∙ rw (low (s .first +ℤ s .second) (omega arith)))
+
+returns-5 : tie.Need-returns-5
+returns-5 c =
+    let p = c .before .before .before .before .before in
+    let k = known p in
+    let a = p .before .to-offset .result in
+    let b = p .to-offset2 .result in
+    let s = p .before .before .args in
+    ap value (held-sum (s .first) (s .second) (c .from-offset .result) (a - (2 ^ 63 - b)) (record { sfits = c .from-offset .ok }) (c .from-offset .ensures) (omega arith) (omega arith))
+    ∙ sym (ordinary (s .first) (s .second) a b k (omega arith) (omega arith) ∙ rw (not-low (s .first +ℤ s .second) (a - (2 ^ 63 - b)) (omega arith)))
 
 pub add-pads-spec : {M : Type 1} → statement M
 add-pads-spec =
     tie.close
     (tie.spec
-    to-offset-requires
-    to-offset-requires-2
-    sub-if2
+    (λ c κs. search needs)
+    (λ c κs. search needs)
     returns
-    add-from-offset
-    from-offset-requires
     returns-2
-    sub-less
+    (λ c κs. search needs)
     returns-3
-    from-offset-requires-2
-    returns-4)
+    (λ c. search needs)
+    returns-4
+    (λ c κs. search needs)
+    returns-5)
