@@ -42,7 +42,7 @@ pub(crate) fn hand(table: Table, message: &mut [u8], output: &mut [u8], stamps: 
     done.table
 }
 
-fn join<'a>(sync: &'a [u8], follow_up: &'a [u8]) {
+pub(crate) fn join<'a>(sync: &'a [u8], follow_up: &'a [u8]) {
     match egress::join(sync, follow_up) {
         Joined::Total(total) => print::number(b", total ", octets::unsigned(total)),
         Joined::Refused(n) => print::refused(n),

@@ -2,6 +2,7 @@
 // line for each. A case that is an input and a line stands in the data of `vectors`.
 mod clocks;
 mod delays;
+mod ends;
 mod headers;
 mod lengths;
 mod limits;
@@ -17,4 +18,5 @@ fn main() {
     lengths::run();
     clocks::run();
     delays::run();
+    ends::run();
 }
