@@ -90,7 +90,7 @@ pub second-asks : (r : Residence) (x : RecordKind) (q : Identity) → twoStepReq
 second-asks r Sync q = refl
 second-asks r Delay q = refl
 
--- the answer is this word
+-- the words by number, to compare them
 abbrev wordNumber : Word → ℕ
 wordNumber updated = 0
 wordNumber passed = 1
@@ -98,6 +98,7 @@ wordNumber created = 2
 wordNumber waiting = 3
 wordNumber added = 4
 
+-- the answer is this word
 abbrev pub says : Word → Option (Answer Word) → Bool
 says w none = false
 says w (some (refused n)) = false
