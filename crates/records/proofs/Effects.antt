@@ -1,5 +1,5 @@
--- What one request or tick does to the view of an identity: a request for another identity leaves it, and one for its own, where it is
--- not told 14, depends on that view alone.
+-- What one request or tick does to the view of an identity: a request for its own, where it is not told 14, depends on that view alone,
+-- and one for another identity leaves it.
 -- Assumes nothing.
 use Prim.Native.Nat.{ℕ}
 use mathlib.Core.Path.{_≡_, refl, sym, ap, _∙_}
@@ -14,21 +14,6 @@ use Rattle.records.specs.declared.Record.{Record}
 use Rattle.records.specs.Slots.{Slots, empty, lowest, find, fresh, vacant, addAnswer, ticked}
 use Rattle.records.specs.Node.{Request, nothing, add, collect, tableAnswer, addLeaves, collectLeaves, tableAfter, asked}
 use Rattle.records.proofs.View.{view, find-view, view-remove-own, view-remove-other, view-ticked, view-add-own, view-add-other}
-
--- a request for another identity
-pub request-other :
-    (a : Request) (q : Identity) (t : Slots) → (asked a ≡ some q → ⊥) → view q (tableAfter a t) ≡ view q t
-request-other nothing q t h = refl
-request-other (add p u) q t h = go (tableAnswer (add p u) t)
-  where
-    go : (a : Answer ℕ) → view q (addLeaves p u t a) ≡ view q t
-    go (value n) = view-add-other q p u t (λ e. h (ap some (sym e)))
-    go (refused n) = refl
-request-other (collect p) q t h = go (tableAnswer (collect p) t)
-  where
-    go : (a : Answer ℕ) → view q (collectLeaves p t a) ≡ view q t
-    go (value u) = view-remove-other q p t (λ e. h (ap some (sym e)))
-    go (refused n) = refl
 
 -- two tables with the same records of the identity asked for answer alike, where neither wants a slot
 pub answer-alike :
@@ -77,6 +62,21 @@ view-collect q t = go (view q t) refl
     go : (v : Slots) → view q t ≡ v → view q (tableAfter (collect q) t) ≡ tail v
     go [] e = rw (find-view q t ∙ ap head? e) e
     go (r ∷ v) e = rw (find-view q t ∙ ap head? e) (view-remove-own q t ∙ ap tail e)
+
+-- a request for another identity
+pub request-other :
+    (a : Request) (q : Identity) (t : Slots) → (asked a ≡ some q → ⊥) → view q (tableAfter a t) ≡ view q t
+request-other nothing q t h = refl
+request-other (add p u) q t h = go (tableAnswer (add p u) t)
+  where
+    go : (a : Answer ℕ) → view q (addLeaves p u t a) ≡ view q t
+    go (value n) = view-add-other q p u t (λ e. h (ap some (sym e)))
+    go (refused n) = refl
+request-other (collect p) q t h = go (tableAnswer (collect p) t)
+  where
+    go : (a : Answer ℕ) → view q (collectLeaves p t a) ≡ view q t
+    go (value u) = view-remove-other q p t (λ e. h (ap some (sym e)))
+    go (refused n) = refl
 
 pub after-alike :
     (a : Request) (q : Identity) (t u : Slots)

@@ -17,9 +17,8 @@ use Rattle.records.specs.Slots.{Slots, same, holds, zeros}
 use Rattle.records.specs.Node.{tick, call}
 use Rattle.rules.specs.Change.{padOf}
 use Rattle.rules.specs.Rules.{Mode, oneStep, twoStep, updated, created, waiting, added}
-use Rattle.rules.specs.Path.{FirstUnrefused, Unrefused, Apart, Every, of-sync, FirstWay, SecondWay, FollowUps, born}
-use Rattle.rules.proofs.Pads.{every-map}
-use Rattle.rules.proofs.Samples.{octetsOf, spare, after, visit, unrefused, other, apart}
+use Rattle.rules.specs.Path.{Unrefused, Apart, Every, of-sync, FirstWay, SecondWay, FollowUps, born}
+use Rattle.rules.proofs.Samples.{octetsOf, spare, after, visit, unrefused, first-halves, other, apart}
 use Rattle.rules.proofs.PathExample.{mine, theirs, aSync, aFollowUp}
 use Rattle.rtm.specs.Stamped.{StampedCall, handed, StampedStop, asStop, firstStamps, total, units}
 use Rattle.rtm.proofs.Runs.{stamped-path-sum}
@@ -130,7 +129,7 @@ rounded :
     × (total exact (firstStamps path) < (total units (firstStamps path) + 2) * 65536)
 rounded =
     path-rounded-down mine (aSync false 0) (aSync true 98304000) path 2 (of-sync false)
-    (every-map Unrefused FirstUnrefused (λ n u. u .0) (map asStop path) none-refused) sync-way refl (omega arith)
+    (first-halves (map asStop path) none-refused) sync-way refl (omega arith)
 
 exactly : total exact (firstStamps path) ≡ total units (firstStamps path) * 65536 + 75776
 exactly = refl

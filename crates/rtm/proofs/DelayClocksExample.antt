@@ -13,9 +13,8 @@ use Rattle.records.specs.Slots.{same, holds}
 use Rattle.records.specs.Node.{tick, call}
 use Rattle.rules.specs.Change.{padOf}
 use Rattle.rules.specs.Rules.{oneStep, twoStep, updated, passed, waiting, added}
-use Rattle.rules.specs.Path.{FirstUnrefused, Unrefused, Apart, Every, of-delay, FirstWay, SecondWay}
-use Rattle.rules.proofs.Pads.{every-map}
-use Rattle.rules.proofs.Samples.{spare, visit, unrefused, apart}
+use Rattle.rules.specs.Path.{Unrefused, Apart, Every, of-delay, FirstWay, SecondWay}
+use Rattle.rules.proofs.Samples.{spare, visit, unrefused, first-halves, apart}
 use Rattle.rules.proofs.DelayExample.{mine, request, response}
 use Rattle.rtm.specs.Stamped.{StampedCall, handed, StampedStop, asStop, firstStamps, total, units}
 use Rattle.rtm.proofs.Runs.{stamped-delay-path-sum}
@@ -89,7 +88,7 @@ rounded :
     × (total exact (firstStamps path) < (total units (firstStamps path) + 1) * 65536)
 rounded =
     path-rounded-down mine (request (pos 0)) (request (pos 98304000)) path 1 of-delay
-    (every-map Unrefused FirstUnrefused (λ n u. u .0) (map asStop path) none-refused) there refl (omega arith)
+    (first-halves (map asStop path) none-refused) there refl (omega arith)
 
 exactly : total exact (firstStamps path) ≡ total units (firstStamps path) * 65536 + 51712
 exactly = refl

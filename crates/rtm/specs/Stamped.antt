@@ -128,14 +128,14 @@ StampedPathSum =
 -- and of a Delay_Req and its Delay_Resp
 abbrev pub StampedDelayPathSum : Type 0
 StampedDelayPathSum =
-    (q : Identity) (request last response end : List ℕ) (path back : List StampedStop)
+    (q : Identity) (request arrived response returned : List ℕ) (path back : List StampedStop)
     → kindOf request ≡ delayReq q
     → kindOf response ≡ delayResp q
     → Every (Apart q) (map asStop path)
     → Every Unrefused (map asStop path)
-    → FirstWay request (map asStop path) last
+    → FirstWay request (map asStop path) arrived
     → List·Permᴰ back path
-    → SecondWay response (map asStop back) end
-    → tooBig (padOf last) ≡ false
-    → tooBig (padOf end) ≡ false
-    → padOf last +ℤ padOf end ≡ padOf request +ℤ padOf response +ℤ pos (total units (firstStamps path))
+    → SecondWay response (map asStop back) returned
+    → tooBig (padOf arrived) ≡ false
+    → tooBig (padOf returned) ≡ false
+    → padOf arrived +ℤ padOf returned ≡ padOf request +ℤ padOf response +ℤ pos (total units (firstStamps path))

@@ -1,6 +1,6 @@
--- What the bounds on the final pads are for: two paths of one node that meet every other premise of the path's sum. At a one-step node a
--- Sync comes within 1 ns of the largest pad and leaves with it; at a two-step node a Follow_Up has it from the start. Both calls are
--- answered, none is refused, and the sums part.
+-- What the bounds on the final pads are for: paths of one node that meet every other premise of the path's sum. At a one-step node a
+-- Sync comes within 1 ns of the largest pad and leaves with it; at a two-step node a Follow_Up, or a Delay_Resp, has it from the start.
+-- Every call is answered, none is refused, and the sums part.
 -- Assumes nothing.
 use Prim.Native.Nat.{ℕ, _+_, _-_, _^_}
 use mathlib.Core.Path.{_≡_, refl, ap}
@@ -20,6 +20,7 @@ use Rattle.rules.specs.Rules.{Mode, oneStep, twoStep, Call, updated, pas
 use Rattle.rules.specs.Path.{Stop, Unrefused, Apart, FirstWay, SecondWay, FollowUps, existing, residences}
 use Rattle.rules.proofs.Samples.{octetsOf, stayed, spare, handedIn, visit, unrefused, apart}
 use Rattle.rules.proofs.PathExample.{mine}
+use Rattle.rules.proofs.DelayExample as delay
 
 abbrev aSync : ℤ → List ℕ
 aSync pad = octetsOf mine true 0 pad
@@ -82,3 +83,36 @@ two-too-big = refl
 
 two-parts : padOf (aSync (pos 0)) +ℤ largest ≡ padOf (aSync (pos 0)) +ℤ largest +ℤ pos (residences (two ∷ [])) → ⊥
 two-parts e = let z : 2 ^ 63 - 1 ≡ 2 ^ 63 - 1 + 65536 = ap above e in omega arith
+
+-- and so with a Delay_Resp in the place of the Follow_Up
+abbrev asking : Call
+asking = handedIn twoStep (delay.request (pos 0)) (stayed 1)
+
+abbrev answering : Call
+answering = handedIn twoStep (delay.response largest) (stayed 9)
+
+abbrev three : Stop
+three =
+    record {
+      mode = twoStep;
+      table = replicate 16 zeros;
+      events = call asking ∷ tick ∷ call answering ∷ [];
+      firstPlace = 0;
+      secondPlace = some 2;
+    }
+
+three-premises :
+    Apart delay.mine three × Unrefused three × FirstWay (delay.request (pos 0)) (three ∷ []) (delay.request (pos 0))
+    × SecondWay (delay.response largest) (three ∷ []) (delay.response largest)
+unfolding same holds
+three-premises = (
+  apart delay.mine three refl (λ e. inl refl, (tt, (λ e. inr refl, tt))),
+  unrefused three refl refl,
+  FirstWay.cross (visit three 0 asking waiting (delay.request (pos 0)) spare refl refl refl) FirstWay.done,
+  SecondWay.cross 2 refl (visit three 2 answering added (delay.response largest) spare refl refl refl) SecondWay.done,
+)
+
+three-parts :
+    padOf (delay.request (pos 0)) +ℤ padOf (delay.response largest)
+    ≡ padOf (delay.request (pos 0)) +ℤ padOf (delay.response largest) +ℤ pos (residences (three ∷ [])) → ⊥
+three-parts e = let z : 2 ^ 63 - 1 ≡ 2 ^ 63 - 1 + 65536 = ap above e in omega arith

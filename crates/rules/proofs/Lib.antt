@@ -11,6 +11,6 @@ pub mod Samples
 pub mod PathExample
 pub mod OrderExample
 pub mod BranchExamples
-pub mod LargestExample
 pub mod DelayExample
+pub mod LargestExample
 pub mod ServiceExample

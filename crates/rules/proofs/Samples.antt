@@ -21,9 +21,10 @@ use Rattle.records.specs.Slots.{same, find}
 use Rattle.records.specs.Node.{Event, tick, call, switchover, Result, told, replied, taken-over}
 use Rattle.records.proofs.Holding.{same-refl}
 use Rattle.rules.specs.Rules.{firstOf, secondOf, kindOf, kindIdentity, Mode, twoStep, Call, Word, created, waiting, asItCame, Reply}
-use Rattle.rules.specs.Path.{Stop, ReplyAt, firstAnswer, secondAnswer, Unrefused, Visit, Apart}
+use Rattle.rules.specs.Path.{Stop, ReplyAt, firstAnswer, secondAnswer, FirstUnrefused, Unrefused, Visit, Apart, Every}
 use Rattle.rules.specs.Demand3.{Waiting}
 use Rattle.rules.proofs.Calls.{says}
+use Rattle.rules.proofs.Pads.{every-map}
 
 -- the identity of document 01's cases, and others of its port: port 00 01 02 03 04 05 06 07 00 01
 abbrev pub numbered : ℕ → Identity
@@ -84,6 +85,9 @@ isRefused (some (refused n)) = true
 
 pub unrefused : (n : Stop) → isRefused (firstAnswer n) ≡ false → isRefused (secondAnswer n) ≡ false → Unrefused n
 unrefused n f g = (λ a e. true≢false (sym (ap isRefused e) ∙ f), λ a e. true≢false (sym (ap isRefused e) ∙ g))
+
+pub first-halves : (ns : List Stop) → Every Unrefused ns → Every FirstUnrefused ns
+first-halves ns h = every-map Unrefused FirstUnrefused (λ n u. u .0) ns h
 
 pub not-created : {o : Option (Answer Word)} → says created o ≡ false → o ≡ some (value created) → ⊥
 not-created f e = true≢false (sym (ap (says created) e) ∙ f)

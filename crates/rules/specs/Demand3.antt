@@ -42,17 +42,17 @@ PathSum =
 -- (document 02, W-204). The Delay_Resp takes them in any order, as a rule backwards; S has no part in it, and nothing is created.
 abbrev pub DelayPathSum : Type 0
 DelayPathSum =
-    (q : Identity) (request last response end : List ℕ) (path back : List Stop)
+    (q : Identity) (request arrived response returned : List ℕ) (path back : List Stop)
     → kindOf request ≡ delayReq q
     → kindOf response ≡ delayResp q
     → Every (Apart q) path
     → Every Unrefused path
-    → FirstWay request path last
+    → FirstWay request path arrived
     → List·Permᴰ back path
-    → SecondWay response back end
-    → tooBig (padOf last) ≡ false
-    → tooBig (padOf end) ≡ false
-    → padOf last +ℤ padOf end ≡ padOf request +ℤ padOf response +ℤ pos (residences path)
+    → SecondWay response back returned
+    → tooBig (padOf arrived) ≡ false
+    → tooBig (padOf returned) ≡ false
+    → padOf arrived +ℤ padOf returned ≡ padOf request +ℤ padOf response +ℤ pos (residences path)
 
 -- Second half. "take every list of node calls, refused ones too, and ticks, from any table, and every other order of it that keeps
 -- each identity's order and each call between the same ticks. If neither refuses a call for want of a slot, the two give equal
