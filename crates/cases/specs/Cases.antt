@@ -50,7 +50,7 @@ abbrev new : Slots
 new = replicate 16 zeros
 
 abbrev replyTo : Slots → Call → Reply
-replyTo t c = callOf t c .reply
+replyTo t c = callOf t 0 c .reply
 
 -- The three nodes, each with a table of its own: the Sync is updated, the second node creates the Follow_Up, the third keeps the
 -- residence until the Follow_Up comes.
@@ -58,7 +58,7 @@ abbrev alongPath : List ℕ → ℕ → ℕ → ℕ → Wanted
 alongPath s a b c =
     let first = replyTo new (callAt oneStep s a 0) in
     let second = replyTo new (callAt twoStep (first .message) b 36) in
-    let third = callOf new (callAt twoStep (second .message) c 36) in
+    let third = callOf new 0 (callAt twoStep (second .message) c 36) in
     let follow = replyTo (third .slots) (callAt twoStep (take 36 (second .output)) 0 0) in
     pads (padOf (third .reply .message)) (padOf (follow .message)) (joinOf (third .reply .message) (follow .message))
 

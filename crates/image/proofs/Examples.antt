@@ -11,7 +11,7 @@ use Rattle.records.specs.declared.RecordKind.the-variants.{Sync, Delay}
 use Rattle.records.specs.declared.Record.{Record}
 use Rattle.records.specs.Slots.{same, zeros}
 use Rattle.image.specs.Layout.{fieldOctets}
-use Rattle.image.specs.Image.{form, fieldsOf, sound, ofSync, differ, writeOf, loadOf}
+use Rattle.image.specs.Image.{form, fieldsOf, sound, ofSync, differ, writeOf, loadOf, loadInto}
 
 -- a record by its sequence, residence and wait, of either kind; and its body
 abbrev ofKind : RecordKind → ℕ → ℕ → ℕ → Record
@@ -85,3 +85,15 @@ small-output = refl
 no-delay : writeOf (ofKind Delay 258 5 0 ∷ []) (7 ∷ 7 ∷ []) ≡ record { answer = value 1; output = 0 ∷ 7 ∷ [] }
 unfolding same sound ofSync differ
 no-delay = refl
+
+-- "loading counts" the number, over a table of any other; a refused load leaves it
+two-counted :
+    loadInto (two 5 26 (aRecord 258 5 3) (aRecord 259 5 3)) (replicate 16 zeros) 200
+    ≡ record { answer = value 0; slots = aRecord 258 5 3 ∷ aRecord 259 5 3 ∷ replicate 14 zeros; number = 2 }
+unfolding same sound ofSync differ
+two-counted = refl
+
+none-counted :
+    loadInto (0 ∷ 0 ∷ []) (aRecord 258 5 3 ∷ replicate 15 zeros) 200
+    ≡ record { answer = refused 22; slots = aRecord 258 5 3 ∷ replicate 15 zeros; number = 200 }
+none-counted = refl

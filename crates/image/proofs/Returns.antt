@@ -17,8 +17,9 @@ use Rattle.records.specs.declared.RecordKind.{RecordKind}
 use Rattle.records.specs.declared.RecordKind.the-variants.{Sync, Delay}
 use Rattle.records.specs.declared.Record.{Record}
 use Rattle.records.specs.Slots.{Slots, empty, zeros, recordsOf}
+use Rattle.records.specs.Node.{takenOver}
 use Rattle.image.specs.Layout.{fit, imageSize, imageOctets, isLaidOut}
-use Rattle.image.specs.Image.{form, fieldsOf, recordOf, rightWait, rightResidence, sound, isSync, ofSync, every, distinct, loadable, imageOf, fitting, writeBy, writeOf, filled, recordsAt, loadOf, takenOver, switched}
+use Rattle.image.specs.Image.{form, fieldsOf, recordOf, rightWait, rightResidence, sound, isSync, ofSync, every, distinct, loadable, imageOf, fitting, writeBy, writeOf, filled, recordsAt, loadOf, handedOver, switched}
 use Rattle.image.specs.Return.{WrittenLoads, AsSwitched}
 use Rattle.image.proofs.Layouts.{allFit, length-image, image-laid-out, image-bodies}
 
@@ -203,14 +204,17 @@ written-loads t out n e =
 
 -- ---- a switchover
 
+handed-over : (t : Slots) → loadable (recordsOf t) ≡ true → handedOver t ≡ value (filled (recordsOf t))
+handed-over t h = ap (λ (a : Answer (List ℕ)). andThen a loadOf) (image-taken t h) ∙ loads-back (recordsOf t) h
+
 pub switched-loaded : (t : Slots) → loadable (recordsOf t) ≡ true → switched t ≡ filled (recordsOf t)
-switched-loaded t h =
-    ap (λ (a : Answer (List ℕ)). takenOver t (andThen a loadOf)) (image-taken t h) ∙ ap (takenOver t) (loads-back (recordsOf t) h)
+switched-loaded t h = ap (takenOver t) (handed-over t h)
 
 pub as-switched : AsSwitched
 as-switched t out n e =
     let k = image-sound t (take n (writeOf t out .output)) (writes out n (imageOf t) e) in
-    written-loads t out n e .0 ∙ ap value (sym (switched-loaded t (k .0)))
+    let h = handed-over t (k .0) in
+    (written-loads t out n e .0 ∙ sym h, h ∙ ap value (sym (switched-loaded t (k .0))))
 
 pub switched-refused : (t : Slots) → loadable (recordsOf t) ≡ false → switched t ≡ t
 switched-refused t h = ap (λ (a : Answer (List ℕ)). takenOver t (andThen a loadOf)) (image-refused t h)

@@ -18,6 +18,7 @@ use Rattle.records.specs.declared.Record.{Record}
 use Rattle.records.specs.Slots.{Slots, identityOf, empty, recordsOf, holds, zeros, lowest, find, fresh, vacant, addAnswer, addTo, removeFrom, agedBy, aged, ticked}
 use Rattle.records.specs.Node.{Request, nothing, add, collect, tableAnswer, addLeaves, collectLeaves, tableAfter}
 use Rattle.records.proofs.Holding.{decide, holds-empty, holds-self, holds-other, withWait}
+use Rattle.records.proofs.Numbers.{records-few, records-same}
 use Rattle.records.proofs.View.{view, viewAged, no-view, view-remove-own, view-remove-other, view-ticked, view-add-own, view-add-other}
 use Rattle.image.specs.Layout.{fit, isLaidOut}
 use Rattle.image.specs.Image.{form, fieldsOf, rightResidence, sound, ofSync, every, differ, distinct, loadable, filled, recordsAt, loadOf, switched}
@@ -166,17 +167,9 @@ pub record Serving (t : Slots) : Type 0 where
   pub sounds : every soundIn t ≡ true
   pub single : Single t
 
-records-fewer : (t : Slots) → length (recordsOf t) ≤ length t
-records-fewer [] = omega arith
-records-fewer (s ∷ t) = go (empty s) (records-fewer t)
-  where
-    go : (b : Bool) → length (recordsOf t) ≤ length t → length (cond b (recordsOf t) (s ∷ recordsOf t)) ≤ suc (length t)
-    go true h = omega arith
-    go false h = omega arith
-
 pub serving-loadable : (t : Slots) → Serving t → every ofSync (recordsOf t) ≡ true → loadable (recordsOf t) ≡ true
 serving-loadable t v h =
-    let few = le-leb (length (recordsOf t)) 16 (omega (arith, records-fewer t, v .slots)) in
+    let few = le-leb (length (recordsOf t)) 16 (omega (arith, records-same t, records-few t, v .slots)) in
     rw (few, records-sound t, v .sounds, h, single-distinct t (v .single))
 
 pub loadable-serving : (t : Slots) → length t ≡ 16 → loadable (recordsOf t) ≡ true → Serving t
@@ -185,11 +178,12 @@ loadable-serving t l h =
     record { slots = l; sounds = sym (records-sound t) ∙ k .1; single = distinct-single t (k .3) }
 
 -- records that can be loaded, filled up with empty slots; a new table and a loaded one are such
+filled-length : (rs : Slots) → loadable rs ≡ true → length (filled rs) ≡ 16
+filled-length rs h =
+    length-append rs (replicate (16 - length rs) zeros) ∙ omega (arith, length-replicate (16 - length rs) zeros, loadable-parts rs h .0)
+
 filled-serving : (t rs : Slots) → t ≡ filled rs → recordsOf t ≡ rs → loadable rs ≡ true → Serving t
-filled-serving t rs e f h =
-    let few = loadable-parts rs h .0 in
-    let z = replicate (16 - length rs) zeros in
-    loadable-serving t (ap length e ∙ length-append rs z ∙ omega (arith, length-replicate (16 - length rs) zeros)) (ap loadable f ∙ h)
+filled-serving t rs e f h = loadable-serving t (ap length e ∙ filled-length rs h) (ap loadable f ∙ h)
 
 pub new-serving : Serving (replicate 16 zeros)
 new-serving = filled-serving (replicate 16 zeros) [] refl refl refl
@@ -267,7 +261,15 @@ serving-request (collect q) t s v = go (tableAnswer (collect q) t)
     go (value u) = serving-removed q t v
     go (refused n) = v
 
--- a switchover, or none where the table cannot be written
+-- a switchover, or none where the table cannot be written, leaves 16 slots
+pub switched-slots : (t : Slots) → length t ≡ 16 → length (switched t) ≡ 16
+switched-slots t l = go (loadable (recordsOf t)) refl
+  where
+    go : (b : Bool) → loadable (recordsOf t) ≡ b → length (switched t) ≡ 16
+    go true h = ap length (switched-loaded t h) ∙ filled-length (recordsOf t) h
+    go false h = ap length (switched-refused t h) ∙ l
+
+-- and a table in service
 pub serving-switched : (t : Slots) → Serving t → Serving (switched t)
 serving-switched t v = go (loadable (recordsOf t)) refl
   where

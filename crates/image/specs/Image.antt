@@ -12,6 +12,8 @@ use Rattle.records.specs.declared.RecordKind.the-variants.{Sync, Delay}
 use Rattle.records.specs.declared.Identity.{Identity}
 use Rattle.records.specs.declared.Record.{Record}
 use Rattle.records.specs.Slots.{Slots, Outcome, identityOf, same, zeros, recordsOf}
+use Rattle.records.specs.Node.{takenOver}
+use Rattle.records.specs.Number.{recounted}
 use Rattle.image.specs.Layout.{Form, fit, imageOctets, isLaidOut, bodiesIn}
 
 -- "each port, sequence, stay in 8 octets and wait (21 octets)": the port is a clock identity in 8 octets and a port number in 2. No
@@ -89,20 +91,18 @@ recordsAt s = map recordOf (bodiesIn form s)
 abbrev pub loadOf : List ℕ → Answer Slots
 loadOf s = refuse 22 (not (isLaidOut form s && loadable (recordsAt s))) (value (filled (recordsAt s)))
 
--- Loading it over a table, by the answer (0 says that it was loaded) and the slots afterwards: "A load replaces the table"; a refusal
--- leaves the one that came.
-abbrev pub loadBy : Slots → Answer Slots → Outcome
-loadBy t (value u) = record { answer = value 0; slots = u }
-loadBy t (refused n) = record { answer = refused n; slots = t }
+-- Loading it over a table with slots t and number n, by the answer (0 says that it was loaded): "A load replaces the table" and counts its
+-- number (W-206); a refusal leaves the table that came.
+abbrev pub loadBy : Slots → ℕ → Answer Slots → Outcome
+loadBy t n a = record { answer = andThen a (λ u. value 0); slots = takenOver t a; number = recounted n a }
 
-abbrev pub loadInto : List ℕ → Slots → Outcome
-loadInto s t = loadBy t (loadOf s)
+abbrev pub loadInto : List ℕ → Slots → ℕ → Outcome
+loadInto s t n = loadBy t n (loadOf s)
 
 -- A switchover: the table is written, and the image loaded by the card that takes over. Where the write is refused there is none, and
 -- the table stays as it is.
-abbrev pub takenOver : Slots → Answer Slots → Slots
-takenOver t (value u) = u
-takenOver t (refused n) = t
+abbrev pub handedOver : Slots → Answer Slots
+handedOver t = andThen (imageOf t) loadOf
 
 abbrev pub switched : Slots → Slots
-switched t = takenOver t (andThen (imageOf t) loadOf)
+switched t = takenOver t (handedOver t)

@@ -16,34 +16,34 @@ use Rattle.rules.specs.Rules.{sync, followUp, firstOf, secondOf, keepIn, gather
 use Rattle.node.specs.Calls.{twoStepCall}
 
 -- a Delay_Req is handled as a Sync with S set is, and a Delay_Resp as a Follow_Up
-module _ (t : Slots) (q : Identity) (m o : List ℕ) (x : Residence) where
-  pub first-alike : (k : RecordKind) → callBy t (twoStepCall m o x) (sync q true) ≡ callBy t (twoStepCall m o x) (firstOf k q)
+module _ (t : Slots) (n : ℕ) (q : Identity) (m o : List ℕ) (x : Residence) where
+  pub first-alike : (k : RecordKind) → callBy t n (twoStepCall m o x) (sync q true) ≡ callBy t n (twoStepCall m o x) (firstOf k q)
   first-alike Sync = refl
   first-alike Delay = refl
 
-  pub second-alike : (k : RecordKind) → callBy t (twoStepCall m o x) (followUp q) ≡ callBy t (twoStepCall m o x) (secondOf k q)
+  pub second-alike : (k : RecordKind) → callBy t n (twoStepCall m o x) (followUp q) ≡ callBy t n (twoStepCall m o x) (secondOf k q)
   second-alike Sync = refl
   second-alike Delay = refl
 
 -- a residence that the table was asked to keep
 pub kept :
-    (t : Slots) (q : Identity) (u : ℕ) (r : Outcome) → r ≡ addOf q u t → (m o : List ℕ) (x : Residence) → acceptedOf x ≡ value u
-    → record { reply = keepIn (twoStepCall m o x) (r .answer); slots = r .slots } ≡ callBy t (twoStepCall m o x) (sync q true)
-kept t q u r e m o x f =
+    (t : Slots) (n : ℕ) (q : Identity) (u : ℕ) (r : Outcome) → r ≡ addOf q u t n → (m o : List ℕ) (x : Residence) → acceptedOf x ≡ value u
+    → record { reply = keepIn (twoStepCall m o x) (r .answer); slots = r .slots; number = r .number } ≡ callBy t n (twoStepCall m o x) (sync q true)
+kept t n q u r e m o x f =
     let c = twoStepCall m o x in
-    ap (λ (y : Outcome). record { reply = keepIn c (y .answer); slots = y .slots }) e ∙ rw f
+    ap (λ (y : Outcome). record { reply = keepIn c (y .answer); slots = y .slots; number = y .number }) e ∙ rw f
 
 -- a Sync whose residence is refused
 pub no-residence :
-    (t : Slots) (q : Identity) (b : Bool) (m o : List ℕ) (x : Residence) (n : ℕ) → acceptedOf x ≡ refused n
-    → record { reply = asItCame (twoStepCall m o x) (refused n); slots = t } ≡ callBy t (twoStepCall m o x) (sync q b)
-no-residence t q true m o x n e = rw e
-no-residence t q false m o x n e = rw e
+    (t : Slots) (n : ℕ) (q : Identity) (b : Bool) (m o : List ℕ) (x : Residence) (k : ℕ) → acceptedOf x ≡ refused k
+    → record { reply = asItCame (twoStepCall m o x) (refused k); slots = t; number = n } ≡ callBy t n (twoStepCall m o x) (sync q b)
+no-residence t n q true m o x k e = rw e
+no-residence t n q false m o x k e = rw e
 
 -- a Follow_Up or a Delay_Resp, by what the table answered
 pub gathered :
-    (k : RecordKind) (t : Slots) (q : Identity) (r : Outcome) → r ≡ collectOf q t → (m o : List ℕ) (x : Residence)
-    → record { reply = gather (twoStepCall m o x) (r .answer); slots = r .slots } ≡ callBy t (twoStepCall m o x) (secondOf k q)
-gathered k t q r e m o x =
+    (k : RecordKind) (t : Slots) (n : ℕ) (q : Identity) (r : Outcome) → r ≡ collectOf q t n → (m o : List ℕ) (x : Residence)
+    → record { reply = gather (twoStepCall m o x) (r .answer); slots = r .slots; number = r .number } ≡ callBy t n (twoStepCall m o x) (secondOf k q)
+gathered k t n q r e m o x =
     let c = twoStepCall m o x in
-    ap (λ (y : Outcome). record { reply = gather c (y .answer); slots = y .slots }) e ∙ second-alike t q m o x k
+    ap (λ (y : Outcome). record { reply = gather c (y .answer); slots = y .slots; number = y .number }) e ∙ second-alike t n q m o x k

@@ -3,7 +3,7 @@ use Prim.Native.Nat.{ℕ}
 use mathlib.Core.List.{List}
 use Rattle.refusal.specs.Answer as answer
 use Rattle.records.specs.Slots.{Slots}
-use Rattle.table.specs.Table.{slotsOf}
+use Rattle.table.specs.Table.{slotsOf, numberOf}
 use Rattle.rules.specs.Rules as rules
 use Rattle.node.specs.declared.answer.Answer.{Answer}
 use Rattle.node.specs.declared.answer.Answer.the-variants.{Updated, Passed, Created, Waiting, Added, Refused}
@@ -27,11 +27,11 @@ replied r m o = record { answer = wordAnswer r; message = m; output = o }
 
 -- and with the table handed back
 abbrev pub done : Done → List ℕ → List ℕ → rules.Done
-done r m o = record { reply = replied (r .answer) m o; slots = slotsOf (r .table) }
+done r m o = record { reply = replied (r .answer) m o; slots = slotsOf (r .table); number = numberOf (r .table) }
 
 -- a one-step call is lent no output and handed no table: whatever they are, they stay
-abbrev pub doneAlone : Answer → List ℕ → List ℕ → Slots → rules.Done
-doneAlone r m o t = record { reply = replied r m o; slots = t }
+abbrev pub doneAlone : Answer → List ℕ → List ℕ → Slots → ℕ → rules.Done
+doneAlone r m o t n = record { reply = replied r m o; slots = t; number = n }
 
 -- the private answers
 abbrev pub unitsAnswer : Accepted → answer.Answer ℕ

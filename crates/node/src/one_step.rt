@@ -33,7 +33,7 @@ fn update_pad(message: &mut [u8], residence: Residence) -> Answer
 // and no table, and changes none.
 pub fn handle_one_step(message: &mut [u8], residence: Residence) -> Answer
     ensures { λ r. ⌜
-        ((t : Slots) (o : List ℕ) → doneAlone r (now (message .exit)) o t ≡ callOf t (oneStepCall (now (message .entry)) o residence))
+        ((t : Slots) (n : ℕ) (o : List ℕ) → doneAlone r (now (message .exit)) o t n ≡ callOf t n (oneStepCall (now (message .entry)) o residence))
         ⌝ }
 {
     match kind::classify(message) {

@@ -22,7 +22,7 @@ ghost use Rattle.refusal.specs.Answer.{value};
 ghost use Rattle.residence.specs.declared.Residence.{Residence};
 ghost use Rattle.residence.specs.Residence.{acceptedOf};
 ghost use Rattle.records.specs.declared.RecordKind.{RecordKind};
-ghost use Rattle.table.specs.Table.{slotsOf};
+ghost use Rattle.table.specs.Table.{slotsOf, numberOf};
 ghost use Rattle.rules.specs.Rules.{createIn, callBy, callOf, sync, delayReq, firstOf, secondOf};
 ghost use Rattle.node.specs.Answers.{replied, done};
 ghost use Rattle.node.specs.Calls.{twoStepCall};
@@ -49,7 +49,7 @@ fn keep(table: Table, identity: Identity, units: u64) -> Done
     ensures { λ r. ⌜
         ((k : RecordKind) (m o : List ℕ) (x : Residence)
         → acceptedOf x ≡ value units
-        → done r m o ≡ callBy (slotsOf table) (twoStepCall m o x) (firstOf k identity))
+        → done r m o ≡ callBy (slotsOf table) (numberOf table) (twoStepCall m o x) (firstOf k identity))
         ⌝ }
 {
     let entered = table.add(identity, units);
@@ -79,7 +79,7 @@ fn handle_sync(
     requires { ⌜ 36 ≤ length (now message) ⌝ }
     ensures { λ r. ⌜
         done r (now (message .exit)) (now (output .exit))
-        ≡ callBy (slotsOf table) (twoStepCall (now (message .entry)) (now (output .entry)) residence) (sync identity flag)
+        ≡ callBy (slotsOf table) (numberOf table) (twoStepCall (now (message .entry)) (now (output .entry)) residence) (sync identity flag)
         ⌝ }
 {
     match answer::accept(residence) {
@@ -101,7 +101,7 @@ fn handle_sync(
 // output the call has, they stay.
 fn handle_delay_req(table: Table, residence: Residence, identity: Identity) -> Done
     ensures { λ r. ⌜
-        ((m o : List ℕ) → done r m o ≡ callBy (slotsOf table) (twoStepCall m o residence) (delayReq identity))
+        ((m o : List ℕ) → done r m o ≡ callBy (slotsOf table) (numberOf table) (twoStepCall m o residence) (delayReq identity))
         ⌝ }
 {
     match answer::accept(residence) {
@@ -118,7 +118,7 @@ fn handle_delay_req(table: Table, residence: Residence, identity: Identity) -> D
 fn gather(table: Table, message: &mut [u8], identity: Identity) -> Done
     ensures { λ r. ⌜
         ((k : RecordKind) (o : List ℕ) (x : Residence)
-        → done r (now (message .exit)) o ≡ callBy (slotsOf table) (twoStepCall (now (message .entry)) o x) (secondOf k identity))
+        → done r (now (message .exit)) o ≡ callBy (slotsOf table) (numberOf table) (twoStepCall (now (message .entry)) o x) (secondOf k identity))
         ⌝ }
 {
     let taken = table.collect(identity);
@@ -150,7 +150,7 @@ pub fn handle_two_step(
 ) -> Done
     ensures { λ r. ⌜
         done r (now (message .exit)) (now (output .exit))
-        ≡ callOf (slotsOf table) (twoStepCall (now (message .entry)) (now (output .entry)) residence)
+        ≡ callOf (slotsOf table) (numberOf table) (twoStepCall (now (message .entry)) (now (output .entry)) residence)
         ⌝ }
 {
     match kind::classify(message) {

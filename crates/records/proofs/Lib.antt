@@ -7,3 +7,5 @@ pub mod Cuts
 pub mod Orders
 pub mod Alone
 pub mod Tally
+pub mod Numbers
+pub mod NumberExamples

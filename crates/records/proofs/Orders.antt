@@ -3,7 +3,7 @@
 -- Assumes nothing.
 use Prim.Native.Nat.{ℕ}
 use mathlib.Core.Path.{_≡_, sym, ap, _∙_}
-use mathlib.Core.Bool.{true, false}
+use mathlib.Core.Bool.{Bool, true, false}
 use mathlib.Core.List.{List}
 use mathlib.Core.Option.{some}
 use native.Mathlib.Omega.{arith}
@@ -64,11 +64,15 @@ module _
           (λ q. cut-view N es fs R L t wes wfs q i j (tick-cut N es fs R q i j e f (x ∙ sym y))) in
           rw x at (counts-at N t es i e) ∙ ap some h ∙ sym (rw y at (counts-at N t fs j f))
 
-  records : (r : Record) → empty r ≡ false → count (sameRecord r) (final N t es) ≡ count (sameRecord r) (final N t fs)
-  records r l =
+  -- as many records pass a test, at the ends
+  pub ends-alike : (p : Record → Bool) → ((s : Record) → empty s ≡ true → p s ≡ false) → count p (final N t es) ≡ count p (final N t fs)
+  ends-alike p full =
       rw (take-length es, take-length fs)
-      at (equal-views (sameRecord r) (λ s. empty-unlike r s l) (after N t (length es) es) (after N t (length fs) fs)
+      at (equal-views p full (after N t (length es) es) (after N t (length fs) fs)
       (λ q. cut-view N es fs R L t wes wfs q (length es) (length fs) (end-cut N es fs R q)))
+
+  records : (r : Record) → empty r ≡ false → count (sameRecord r) (final N t es) ≡ count (sameRecord r) (final N t fs)
+  records r l = ends-alike (sameRecord r) (λ s. empty-unlike r s l)
 
 pub order-free : (N : Node) → Lawful N → OrderFree N
 order-free N L t es fs R wes wfs =

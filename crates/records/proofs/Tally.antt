@@ -6,8 +6,8 @@ use mathlib.Core.List.{[], _∷_}
 use native.Mathlib.Omega.{arith}
 use borrow.Author.Tests.{ne-eqb}
 use lib.Dec.{eqb·suc-zero}
-use Rattle.records.specs.Slots.{agedBy, ticked, emptied}
-use Rattle.records.specs.Ageing.{recordsIn, TickTells}
+use Rattle.records.specs.Slots.{agedBy, ticked, emptied, recordsIn}
+use Rattle.records.specs.Ageing.{TickTells}
 use Rattle.records.proofs.Holding.{withWait}
 
 pub tick-tells : TickTells

@@ -2,19 +2,14 @@
 -- tick."; "A record ages out at the third tick after the Sync's call at that node.").
 use Prim.Native.Nat.{ℕ, _+_, _<_, _≤_}
 use mathlib.Core.Path.{_≡_}
-use mathlib.Core.Bool.{not}
 use mathlib.Core.List.{List}
 use mathlib.Core.Option.{none, some}
 use lib.ListN.{getElem?, take}
 use Rattle.refusal.specs.Answer.{value}
 use Rattle.records.specs.declared.Identity.{Identity}
-use Rattle.records.specs.Slots.{Slots, empty, find, ticked, count, emptied}
+use Rattle.records.specs.Slots.{Slots, find, ticked, emptied, recordsIn}
 use Rattle.records.specs.Node.{Node, add, collect, tableAnswer, Event, call, final}
 use Rattle.records.specs.Order.{ticks}
-
--- how many records a table holds
-abbrev pub recordsIn : Slots → ℕ
-recordsIn t = count (λ s. not (empty s)) t
 
 -- a call at place i of a run puts in a record of identity q and residence u, and no other call of that identity comes before place j
 pub record Waits (N : Node) (t : Slots) (es : List (Event (N .Call))) (q : Identity) (u i j : ℕ) : Type 0 where

@@ -16,7 +16,7 @@ pub data Request : Type 0 where
 
 -- A node. A call is one message with all that is handed in beside it, except the table. `identity` is that of the call's message,
 -- where it has one. `reply` is made of the table's answer; it has all that the call leaves, except the table. `answer` is the reply's
--- answer. `handover` is the table with which the card that takes over goes on.
+-- answer. `handover` is the table with which the card that takes over goes on, or the refusal where there is no switchover.
 pub record Node : Type 1 where
   pub Call : Type 0
   pub Reply : Type 0
@@ -25,7 +25,7 @@ pub record Node : Type 1 where
   pub request : Call → Request
   pub reply : Call → Answer ℕ → Reply
   pub answer : Reply → Answer Word
-  pub handover : Slots → Slots
+  pub handover : Slots → Answer Slots
 
 -- the table's answer to a request: 13, 14, 15, or the residence collected (0 where none is)
 abbrev pub tableAnswer : Request → Slots → Answer ℕ
@@ -60,11 +60,16 @@ pub data Result (R : Type 0) : Type 0 where
   replied : R → Result R
   taken-over : Result R
 
+-- a load, and so a switchover, leaves the table that it brings; where it is refused the table stays as it is
+abbrev pub takenOver : Slots → Answer Slots → Slots
+takenOver t (value u) = u
+takenOver t (refused n) = t
+
 module _ (N : Node) where
   abbrev pub step : Slots → Event (N .Call) → Slots
   step t tick = ticked t
   step t (call c) = tableAfter (N .request c) t
-  step t switchover = N .handover t
+  step t switchover = takenOver t (N .handover t)
 
   abbrev pub result : Slots → Event (N .Call) → Result (N .Reply)
   result t tick = told (emptied t)
@@ -90,4 +95,4 @@ asked (collect q) = some q
 pub record Lawful (N : Node) : Type 0 where
   pub own : (c : N .Call) (q : Identity) → asked (N .request c) ≡ some q → N .identity c ≡ some q
   pub want : (c : N .Call) (q : Identity) (u : ℕ) → N .request c ≡ add q u → N .answer (N .reply c (refused 14)) ≡ refused 14
-  pub kept : (t : Slots) → recordsOf (N .handover t) ≡ recordsOf t
+  pub kept : (t : Slots) → recordsOf (takenOver t (N .handover t)) ≡ recordsOf t

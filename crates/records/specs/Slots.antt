@@ -15,10 +15,11 @@ use Rattle.records.specs.declared.Record.{Record}
 abbrev pub Slots : Type 0
 Slots = List Record
 
--- what an operation on a table answers, and the slots afterwards
+-- what an operation on a table answers, and the table afterwards: its slots, and its number (`Number`)
 pub record Outcome : Type 0 where
   pub answer : Answer ℕ
   pub slots : Slots
+  pub number : ℕ
 
 -- "A record gains its kind, Sync or Delay" (document 02, W-204), here as a number
 abbrev pub kindNumber : RecordKind → ℕ
@@ -106,3 +107,7 @@ count p (s ∷ t) = cond (p s) (suc (count p t)) (count p t)
 
 abbrev pub emptied : Slots → ℕ
 emptied t = count (λ s. eqb (s .wait) 1) t
+
+-- how many records a table holds: "the slots with a wait above 0" (document 02, W-206)
+abbrev pub recordsIn : Slots → ℕ
+recordsIn t = count (λ s. not (empty s)) t

@@ -1,6 +1,9 @@
 // The records that wait for a Follow_Up or a Delay_Resp (document 01, What a node does; document 02,
-// W-204): what they are, and, in specs/ and proofs/, what a table of them does and the theorem that
-// the order of calls at a node does not matter. The table itself is the crate `table`.
+// W-204): what they are, the number that a table keeps of them, and, in specs/ and proofs/, what a
+// table of them does and the theorem that the order of calls at a node does not matter. The table
+// itself is the crate `table`.
+pub mod number;
+
 ghost use mathlib.Core.Path.{_≡_};
 ghost use Rattle.records.specs.Slots.{kindNumber, identityOf, same, zeros as zeros·spec};
 

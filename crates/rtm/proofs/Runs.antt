@@ -16,13 +16,15 @@ use Rattle.stamp.specs.Stamps.{residenceOf}
 use Rattle.stamp.proofs.Given.{refusals, keeps-promise}
 use Rattle.records.specs.Slots.{Slots}
 use Rattle.records.specs.Node.{Lawful, Event, tick, call, switchover, Result, result, step, run, final}
+use Rattle.records.specs.Number.{numberStep, finalNumber}
 use Rattle.records.proofs.Orders.{order-free}
 use Rattle.rules.specs.Change.{padOf}
 use Rattle.rules.specs.Rules.{Reply, rules}
 use Rattle.rules.specs.Path.{unitsOf, unitsIn, residences}
 use Rattle.rules.proofs.Laws.{lawful}
+use Rattle.rules.proofs.Serves.{keeps-slots, number-serves, orders-serve}
 use Rattle.rules.proofs.PathSums.{path-sum, delay-path-sum}
-use Rattle.rtm.specs.Stamped.{residenceBy, stampedResidence, StampedCall, handed, handedEvent, stamped, SameRun, StampedOrderDoesNotMatter}
+use Rattle.rtm.specs.Stamped.{residenceBy, stampedResidence, StampedCall, handed, handedEvent, stamped, SameRun, StampedOrderDoesNotMatter, StampedNumberInService, StampedNumberOrderFree}
 use Rattle.rtm.specs.Stamped.{StampedStop, asStop, stampsIn, firstStamps, total, units, StampedPathSum, StampedDelayPathSum}
 
 -- a residence is the one of its answer
@@ -61,14 +63,26 @@ finals t (tick ∷ es) = finals (step rules t tick) es
 finals t (call c ∷ es) = finals (step rules t (call (handed c))) es
 finals t (switchover ∷ es) = finals (step rules t switchover) es
 
+final-numbers : (t : Slots) (n : ℕ) (es : List (Event StampedCall)) → finalNumber stamped t n es ≡ finalNumber rules t n (map handedEvent es)
+final-numbers t n [] = refl
+final-numbers t n (tick ∷ es) = final-numbers (step rules t tick) (numberStep rules t n tick) es
+final-numbers t n (call c ∷ es) = final-numbers (step rules t (call (handed c))) (numberStep rules t n (call (handed c))) es
+final-numbers t n (switchover ∷ es) = final-numbers (step rules t switchover) (numberStep rules t n switchover) es
+
 pub same-run : SameRun
-same-run t es = (runs t es, finals t es)
+same-run t n es = (runs t es, finals t es, final-numbers t n es)
 
 stamped-lawful : Lawful stamped
 stamped-lawful = record { own = λ c. lawful .own (handed c); want = λ c. lawful .want (handed c); kept = lawful .kept }
 
 pub stamped-order-does-not-matter : StampedOrderDoesNotMatter
 stamped-order-does-not-matter = order-free stamped stamped-lawful
+
+pub stamped-number-in-service : StampedNumberInService
+stamped-number-in-service = number-serves stamped keeps-slots
+
+pub stamped-number-order-free : StampedNumberOrderFree
+stamped-number-order-free = orders-serve stamped keeps-slots stamped-lawful
 
 -- the residences of a path are those of the first message's stamps
 total-append : (f : Stamps → ℕ) (ss rs : List Stamps) → total f (ss ++ rs) ≡ total f ss + total f rs

@@ -18,9 +18,11 @@ use Rattle.records.specs.declared.Identity.{Identity}
 use Rattle.records.specs.Slots.{Slots}
 use Rattle.records.specs.Node.{Node, Event, tick, call, switchover, run, final}
 use Rattle.records.specs.Order.{OrderFree}
+use Rattle.records.specs.Number.{finalNumber}
 use Rattle.rules.specs.Change.{padOf}
 use Rattle.rules.specs.Rules.{Mode, Call, Reply, Word, sync, delayReq, delayResp, kindOf, rules}
 use Rattle.rules.specs.Path.{Stop, Unrefused, Apart, Every, FirstWay, SecondWay, FollowUps, unitsOf}
+use Rattle.rules.specs.Service.{NumberInService, NumberOrderFree}
 
 -- the residence whose answer is given: 9 an invalid stamp, 10 too long
 abbrev pub residenceBy : Answer ℕ → Residence
@@ -67,13 +69,21 @@ stamped =
 -- a run of calls with stamps is the run of the same calls with their residences
 abbrev pub SameRun : Type 0
 SameRun =
-    (t : Slots) (es : List (Event StampedCall))
+    (t : Slots) (n : ℕ) (es : List (Event StampedCall))
     → (run stamped t es ≡ run rules t (map handedEvent es))
     × (final stamped t es ≡ final rules t (map handedEvent es))
+    × (finalNumber stamped t n es ≡ finalNumber rules t n (map handedEvent es))
 
 -- and the order of calls with stamps does not matter
 abbrev pub StampedOrderDoesNotMatter : Type 0
 StampedOrderDoesNotMatter = OrderFree stamped
+
+-- nor does it for the number, which is that of the records (document 02, W-206)
+abbrev pub StampedNumberInService : Type 0
+StampedNumberInService = NumberInService stamped
+
+abbrev pub StampedNumberOrderFree : Type 0
+StampedNumberOrderFree = NumberOrderFree stamped
 
 -- A node of a path whose calls have stamps, as a node of the path theorem: by `SameRun` the results at its places are its own.
 pub record StampedStop : Type 0 where

@@ -9,7 +9,7 @@ ghost use mathlib.Core.Path.{_≡_};
 ghost use Prim.Native.Nat.{ℕ};
 ghost use mathlib.Core.List.{List};
 ghost use Rattle.records.specs.Slots.{Slots};
-ghost use Rattle.table.specs.Table.{slotsOf};
+ghost use Rattle.table.specs.Table.{slotsOf, numberOf};
 ghost use Rattle.rules.specs.Rules.{oneStep, twoStep, callOf};
 ghost use Rattle.node.specs.Answers.{doneAlone, done};
 ghost use Rattle.rtm.specs.Stamped.{handedCall};
@@ -17,7 +17,7 @@ ghost use Rattle.rtm.specs.Stamped.{handedCall};
 // A message at a one-step node: updated or passed; refusals 1 to 10, see node::handle_one_step.
 pub fn one_step(message: &mut [u8], stamps: Stamps) -> Answer
     ensures { λ r. ⌜
-        ((t : Slots) (o : List ℕ) → doneAlone r (now (message .exit)) o t ≡ callOf t (handedCall oneStep (now (message .entry)) o stamps))
+        ((t : Slots) (n : ℕ) (o : List ℕ) → doneAlone r (now (message .exit)) o t n ≡ callOf t n (handedCall oneStep (now (message .entry)) o stamps))
         ⌝ }
 {
     node::handle_one_step(message, stamp::residence_of(stamps))
@@ -28,7 +28,7 @@ pub fn one_step(message: &mut [u8], stamps: Stamps) -> Answer
 pub fn two_step(table: Table, message: &mut [u8], output: &mut [u8], stamps: Stamps) -> Done
     ensures { λ r. ⌜
         done r (now (message .exit)) (now (output .exit))
-        ≡ callOf (slotsOf table) (handedCall twoStep (now (message .entry)) (now (output .entry)) stamps)
+        ≡ callOf (slotsOf table) (numberOf table) (handedCall twoStep (now (message .entry)) (now (output .entry)) stamps)
         ⌝ }
 {
     node::handle_two_step(table, message, output, stamp::residence_of(stamps))

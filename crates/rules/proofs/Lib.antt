@@ -14,3 +14,4 @@ pub mod BranchExamples
 pub mod DelayExample
 pub mod LargestExample
 pub mod ServiceExample
+pub mod NumberExample

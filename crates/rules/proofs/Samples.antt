@@ -1,15 +1,16 @@
--- For the worked examples of demand 3: messages of type 3, calls on them, the answers of a run, and every place of a list in turn.
+-- For the worked examples of demand 3: messages of type 3, calls on them, the answers of a run, every place of a list in turn, and two orders.
 -- Assumes nothing.
 use Prim.Native.Nat.{ℕ, zero, suc, _*_, _<_}
 use mathlib.Core.Path.{_≡_, refl, sym, ap, subst, _∙_}
 use mathlib.Core.Bool.{Bool, true, false, true≢false}
 use mathlib.Core.List.{List, [], _∷_, map}
 use mathlib.Core.Logic.{_⊎_, inl, inr}
-use mathlib.Core.Option.{Option, none, some}
+use mathlib.Core.Option.{Option, none, some, Option·none-ne-some}
 use native.Mathlib.Omega.{arith}
 use lib.IntN.{ℤ}
-use lib.ListN.{getElem?, replicate}
+use lib.ListN.{length, getElem?, replicate}
 use Rattle.refusal.specs.Answer.{Answer, value, refused}
+use Rattle.refusal.proofs.Answers.{not-both}
 use Rattle.residence.specs.declared.Residence.{Residence}
 use Rattle.residence.specs.declared.Residence.the-variants.{Units}
 use Rattle.residence.specs.Residence.{acceptedOf}
@@ -17,10 +18,11 @@ use Rattle.message.specs.Write.{ptpOctets}
 use Rattle.records.specs.declared.RecordKind.the-variants.{Sync}
 use Rattle.records.specs.declared.Identity.{Identity}
 use Rattle.records.specs.declared.Record.{Record}
-use Rattle.records.specs.Slots.{same, find}
-use Rattle.records.specs.Node.{Event, tick, call, switchover, Result, told, replied, taken-over}
+use Rattle.records.specs.Slots.{Slots, same, find}
+use Rattle.records.specs.Node.{Event, tick, call, switchover, Result, told, replied, taken-over, run}
+use Rattle.records.specs.Order.{ticks, Reordered, NoWant}
 use Rattle.records.proofs.Holding.{same-refl}
-use Rattle.rules.specs.Rules.{firstOf, secondOf, kindOf, kindIdentity, Mode, twoStep, Call, Word, created, waiting, asItCame, Reply}
+use Rattle.rules.specs.Rules.{firstOf, secondOf, kindOf, kindIdentity, Mode, twoStep, Call, Word, created, waiting, asItCame, Reply, rules}
 use Rattle.rules.specs.Path.{Stop, ReplyAt, firstAnswer, secondAnswer, FirstUnrefused, Unrefused, Visit, Apart, Every}
 use Rattle.rules.specs.Demand3.{Waiting}
 use Rattle.rules.proofs.Calls.{says}
@@ -149,3 +151,67 @@ Placed q n k (call c) = kindIdentity (kindOf (c .message)) ≡ some q → (k ≡
 
 pub apart : (q : Identity) (n : Stop) → find q (n .table) ≡ none → Each (Placed q n) (n .events) → Apart q n
 apart q n free h = record { free = free; others = λ k c. each (Placed q n) (n .events) h k (call c) }
+
+-- ---- two orders
+
+-- the call at a place, if there is one
+abbrev pub callIn : Option (Event Call) → Option Call
+callIn none = none
+callIn (some tick) = none
+callIn (some (call c)) = some c
+callIn (some switchover) = none
+
+is-call : (o : Option (Event Call)) (c : Call) → callIn o ≡ some c → o ≡ some (call c)
+is-call none c e = absurd (Option·none-ne-some c e)
+is-call (some tick) c e = absurd (Option·none-ne-some c e)
+is-call (some (call d)) c e = ap (λ (o : Option Call). asEvent o) e
+  where
+    asEvent : Option Call → Option (Event Call)
+    asEvent none = none
+    asEvent (some d) = some (call d)
+is-call (some switchover) c e = absurd (Option·none-ne-some c e)
+
+-- an order of the calls of another in which each stands at the place that `move` says, which is its own inverse
+module _
+    (this that : List (Event Call)) (move : ℕ → ℕ)
+    (moved : (i : ℕ) → (callIn (getElem? this i) ≡ callIn (getElem? that (move i))) × (move (move i) ≡ i) × (ticks i this ≡ ticks (move i) that)) where
+  pub there : (i : ℕ) (c : Call) → getElem? this i ≡ some (call c) → getElem? that (move i) ≡ some (call c)
+  there i c e = is-call (getElem? that (move i)) c (sym (moved i .0) ∙ ap callIn e)
+
+  pub back : (j : ℕ) (c : Call) → getElem? that j ≡ some (call c) → getElem? this (move j) ≡ some (call c)
+  back j c e = is-call (getElem? this (move j)) c (moved (move j) .0 ∙ ap (λ (k : ℕ). callIn (getElem? that k)) (moved j .1) ∙ ap callIn e)
+
+  abbrev pub reorderedBy :
+      ticks (length this) this ≡ ticks (length that) that
+      → ((i j : ℕ) (c d : Call) (q : Identity)
+      → getElem? this i ≡ some (call c)
+      → getElem? this j ≡ some (call d)
+      → kindIdentity (kindOf (c .message)) ≡ some q
+      → kindIdentity (kindOf (d .message)) ≡ some q
+      → i < j
+      → move i < move j)
+      → Reordered rules this that
+  reorderedBy same-ticks in-order =
+      record {
+        to = move;
+        from = move;
+        there = there;
+        back = back;
+        from-to = λ i c e. moved i .1;
+        to-from = λ j c e. moved j .1;
+        same-ticks = same-ticks;
+        between = λ i c e. moved i .2;
+        in-order = in-order;
+      }
+
+-- no call of a run wants a slot
+abbrev Roomy : ℕ → Result Reply → Type 0
+Roomy k (told n) = Unit {0}
+Roomy k (replied r) = r .answer ≡ refused 14 → ⊥
+Roomy k taken-over = Unit {0}
+
+pub no-want : (t : Slots) (es : List (Event Call)) → Each Roomy (run rules t es) → NoWant rules t es
+no-want t es h i r = each Roomy (run rules t es) h i (replied r)
+
+pub fine : {w : Word} → value w ≡ refused 14 → ⊥
+fine e = not-both (sym e)

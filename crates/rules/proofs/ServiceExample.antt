@@ -59,13 +59,14 @@ stopped = refl
 -- behind it the theorem says that it can, and this is the image: the Sync's record, one tick old
 written : (s : List ℕ) × (imageOf (final rules (replicate 16 zeros) events) ≡ value s)
 unfolding same holds sound ofSync differ
-written = always-written (replicate 16 zeros) events new in-octets refl
+written = always-written (replicate 16 zeros) 0 events new in-octets refl
 
-image :
-    imageOf (final rules (replicate 16 zeros) events)
-    ≡ value
-    (0x01 ∷ 0x00 ∷ 0x03
+abbrev pub oneRecord : List ℕ
+oneRecord =
+    0x01 ∷ 0x00 ∷ 0x03
     ∷ 0x00 ∷ 0x01 ∷ 0x02 ∷ 0x03 ∷ 0x04 ∷ 0x05 ∷ 0x06 ∷ 0x07 ∷ 0x00 ∷ 0x01 ∷ 0x01 ∷ 0x02
-    ∷ 0x00 ∷ 0x00 ∷ 0x00 ∷ 0x00 ∷ 0x00 ∷ 0x01 ∷ 0x00 ∷ 0x00 ∷ 0x02 ∷ [])
+    ∷ 0x00 ∷ 0x00 ∷ 0x00 ∷ 0x00 ∷ 0x00 ∷ 0x01 ∷ 0x00 ∷ 0x00 ∷ 0x02 ∷ []
+
+image : imageOf (final rules (replicate 16 zeros) events) ≡ value oneRecord
 unfolding same holds sound ofSync differ
 image = refl

@@ -56,7 +56,8 @@ DelayPathSum =
 
 -- Second half. "take every list of node calls, refused ones too, and ticks, from any table, and every other order of it that keeps
 -- each identity's order and each call between the same ticks. If neither refuses a call for want of a slot, the two give equal
--- answers, equal octets and, slots aside, equal records."
+-- answers, equal octets and, slots aside, equal records." The number of a table's records, which "Demand 3 compares .. too" (W-206), has a
+-- statement of its own, from a new or loaded table alone: `Service` NumberOrderFree.
 abbrev pub OrderDoesNotMatter : Type 0
 OrderDoesNotMatter = OrderFree rules
 

@@ -1,5 +1,6 @@
--- What stops a switchover in service (document 02, W-201 and W-204): nothing but a Delay record. What node calls, ticks and switchovers
--- make of a new or a loaded table can be written whenever no Delay record waits; a switchover that is refused leaves the table as it is.
+-- What holds in service, of what node calls, ticks and switchovers make of a new or a loaded table. Nothing stops a switchover but a Delay
+-- record (document 02, W-201 and W-204): the table can be written whenever none waits, and a switchover that is refused leaves it as it
+-- is. And the number that the table keeps is that of its records (W-206).
 use Prim.Native.Nat.{ℕ}
 use mathlib.Core.Path.{_≡_}
 use mathlib.Core.Bool.{true}
@@ -8,15 +9,18 @@ use mathlib.Core.Option.{some}
 use lib.ListN.{getElem?, replicate}
 use Rattle.octets.specs.Octets.{Octets}
 use Rattle.refusal.specs.Answer.{value}
-use Rattle.records.specs.Slots.{Slots, zeros, recordsOf}
-use Rattle.records.specs.Node.{Event, call, final}
-use Rattle.image.specs.Image.{every, ofSync, imageOf, loadOf}
-use Rattle.rules.specs.Rules.{Call, rules}
+use Rattle.records.specs.Slots.{Slots, zeros, recordsOf, recordsIn}
+use Rattle.records.specs.Node.{Node, Event, call, final}
+use Rattle.records.specs.Order.{Reordered, NoWant}
+use Rattle.records.specs.Number.{readNumber, finalNumber, Aside}
+use Rattle.image.specs.Image.{every, ofSync, imageOf, loadInto}
+use Rattle.rules.specs.Rules.{Call, rules, callOf}
 
--- a table that a card starts with
-pub data Started : Slots → Type 0 where
-  new : Started (replicate 16 zeros)
-  loaded : (s : List ℕ) (t : Slots) → loadOf s ≡ value t → Started t
+-- a table that a card starts with, its slots and its number: a new one, or one that an image loads, over whatever table was there
+pub data Started : Slots → ℕ → Type 0 where
+  new : Started (replicate 16 zeros) 0
+  loaded :
+      (s : List ℕ) (there t : Slots) (m n : ℕ) → loadInto s there m ≡ record { answer = value 0; slots = t; number = n } → Started t n
 
 -- the messages of a list are octets
 abbrev pub InOctets : List (Event Call) → Type 0
@@ -28,8 +32,33 @@ NoDelay t = every ofSync (recordsOf t) ≡ true
 
 abbrev pub AlwaysWritten : Type 0
 AlwaysWritten =
-    (t : Slots) (es : List (Event Call))
-    → Started t
+    (t : Slots) (n : ℕ) (es : List (Event Call))
+    → Started t n
     → InOctets es
     → NoDelay (final rules t es)
     → (s : List ℕ) × (imageOf (final rules t es) ≡ value s)
+
+-- "no other answer depends on it", neither a call's nor a load's, from any table
+abbrev pub CallsAside : Type 0
+CallsAside =
+    ((t : Slots) (c : Call) (m n : ℕ) → (callOf t m c .reply ≡ callOf t n c .reply) × (callOf t m c .slots ≡ callOf t n c .slots))
+    × ((s : List ℕ) (t : Slots) → Aside (loadInto s t))
+
+-- "From a new or loaded table, after any calls, it equals the slots with a wait above 0": the number kept, and the one that is asked for,
+-- at any node
+abbrev pub NumberInService : Node → Type 0
+NumberInService N =
+    (t : Slots) (n : ℕ) (es : List (Event (N .Call)))
+    → Started t n
+    → (finalNumber N t n es ≡ recordsIn (final N t es))
+    × (readNumber (finalNumber N t n es) ≡ recordsIn (final N t es))
+
+-- "Demand 3 compares it too, at the end, from a new or loaded table": of two orders, under the premises of `OrderFree`
+abbrev pub NumberOrderFree : Node → Type 0
+NumberOrderFree N =
+    (t : Slots) (n : ℕ) (es fs : List (Event (N .Call)))
+    → Started t n
+    → Reordered N es fs
+    → NoWant N t es
+    → NoWant N t fs
+    → finalNumber N t n es ≡ finalNumber N t n fs

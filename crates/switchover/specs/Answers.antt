@@ -11,6 +11,6 @@ abbrev pub loadingAnswer : Loading → Answer ℕ
 loadingAnswer loading.Replaced = value 0
 loadingAnswer (loading.Refused n) = refused n
 
--- what was answered, with the slots that were handed back
+-- what was answered, with the slots and the number that were handed back
 abbrev pub loaded : Loaded → Outcome
-loaded r = record { answer = loadingAnswer (r .answer); slots = r .slots }
+loaded r = record { answer = loadingAnswer (r .answer); slots = r .slots; number = r .number }

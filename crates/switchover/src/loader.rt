@@ -16,18 +16,21 @@ pub enum Loading {
     Refused(u8),
 }
 
-// The slots that an image loads, and the answer; on refusal every slot is zeros.
+// The slots that an image loads, how many of them hold a record (document 02, W-206), and the answer;
+// on refusal every slot is zeros, and the number 0.
 pub struct Loaded {
     pub slots: [Record; 16],
+    pub number: u8,
     pub answer: Loading,
 }
 
 // A refusal, with these slots.
 fn not_loaded(slots: [Record; 16]) -> Loaded
-    ensures { λ r. ⌜ loaded r ≡ loadBy slots (refused 22) ⌝ }
+    ensures { λ r. ⌜ loaded r ≡ loadBy slots 0 (refused 22) ⌝ }
 {
     Loaded {
         slots,
+        number: 0,
         answer: Loading::Refused(refusal::IMAGE),
     }
 }
@@ -36,7 +39,7 @@ fn not_loaded(slots: [Record; 16]) -> Loaded
 // Refusal 22 for any other string than an image of records that can be loaded. It is the load over a
 // table with no records.
 pub fn load(image: &[u8]) -> Loaded
-    ensures { λ r. ⌜ loaded r ≡ loadInto (now (image .entry)) (replicate 16 zeros) ⌝ }
+    ensures { λ r. ⌜ loaded r ≡ loadInto (now (image .entry)) (replicate 16 zeros) 0 ⌝ }
 {
     let none = [Record::zeros(); 16];
     let n = contents::count(image);
@@ -50,6 +53,7 @@ pub fn load(image: &[u8]) -> Loaded
     if listing::are_loadable(slots, n) {
         return Loaded {
             slots,
+            number: n as u8,
             answer: Loading::Replaced,
         };
     }

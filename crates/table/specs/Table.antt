@@ -1,9 +1,11 @@
--- The table's operations: each gives its answer, in document 01's numbers, with the slots afterwards.
+-- The table's operations: each gives its answer, in document 01's numbers, with the slots and the number (document 02, W-206) afterwards.
 use Prim.Native.Nat.{ℕ}
+use lib.ListN.{replicate}
 use Rattle.refusal.specs.Answer.{Answer, value, refused}
 use Rattle.records.specs.declared.Identity.{Identity}
-use Rattle.records.specs.Slots.{Slots, Outcome, ticked, emptied}
-use Rattle.records.specs.Node.{Request, add, collect, tableAnswer, tableAfter}
+use Rattle.records.specs.Slots.{Slots, Outcome, zeros}
+use Rattle.records.specs.Node.{add, collect}
+use Rattle.records.specs.Number.{requestOf}
 use Rattle.switchover.specs.Answers.{loadingAnswer}
 use Rattle.table.specs.declared.Table.{Table}
 use Rattle.table.specs.declared.Entry.{Entry}
@@ -15,9 +17,22 @@ use Rattle.table.specs.declared.Taken.{Taken}
 use Rattle.table.specs.declared.Ticked.{Ticked}
 use Rattle.table.specs.declared.Reloaded.{Reloaded}
 
--- the slots of a table: what contracts and statements say of a table they say of these
+-- the slots and the number of a table: what contracts and statements say of a table they say of these
 abbrev pub slotsOf : Table → Slots
 slotsOf t = t .slots
+
+abbrev pub numberOf : Table → ℕ
+numberOf t = t .number
+
+abbrev pub handedBack : Answer ℕ → Table → Outcome
+handedBack a t = record { answer = a; slots = slotsOf t; number = numberOf t }
+
+-- a new table: no records, and a number of 0; where nothing is answered 0 stands for the answer
+abbrev pub made : Table → Outcome
+made t = handedBack (value 0) t
+
+abbrev pub newOf : Outcome
+newOf = record { answer = value 0; slots = replicate 16 zeros; number = 0 }
 
 -- "waiting" says no number: 0
 abbrev pub entryAnswer : Entry → Answer ℕ
@@ -29,28 +44,22 @@ foundAnswer (found.Residence u) = value u
 foundAnswer (found.Refused n) = refused n
 
 abbrev pub entered : Entered → Outcome
-entered r = record { answer = entryAnswer (r .answer); slots = slotsOf (r .table) }
+entered r = handedBack (entryAnswer (r .answer)) (r .table)
 
 abbrev pub taken : Taken → Outcome
-taken r = record { answer = foundAnswer (r .answer); slots = slotsOf (r .table) }
+taken r = handedBack (foundAnswer (r .answer)) (r .table)
 
 -- a tick's answer is its count
 abbrev pub counted : Ticked → Outcome
-counted r = record { answer = value (r .emptied); slots = slotsOf (r .table) }
+counted r = handedBack (value (r .emptied)) (r .table)
 
--- what adding, collecting and a tick come to
-abbrev pub requestOf : Request → Slots → Outcome
-requestOf q t = record { answer = tableAnswer q t; slots = tableAfter q t }
+-- what adding and collecting come to, of slots t and a number n; a tick's is `records` Number.`tickOf`
+abbrev pub addOf : Identity → ℕ → Slots → ℕ → Outcome
+addOf q u t n = requestOf (add q u) t n
 
-abbrev pub addOf : Identity → ℕ → Slots → Outcome
-addOf q u t = requestOf (add q u) t
-
-abbrev pub collectOf : Identity → Slots → Outcome
-collectOf q t = requestOf (collect q) t
-
-abbrev pub tickOf : Slots → Outcome
-tickOf t = record { answer = value (emptied t); slots = ticked t }
+abbrev pub collectOf : Identity → Slots → ℕ → Outcome
+collectOf q t n = requestOf (collect q) t n
 
 -- loading an image, which leaves the table that came where it is refused (`image` Image.`loadInto`)
 abbrev pub reloaded : Reloaded → Outcome
-reloaded r = record { answer = loadingAnswer (r .answer); slots = slotsOf (r .table) }
+reloaded r = handedBack (loadingAnswer (r .answer)) (r .table)

@@ -1,20 +1,26 @@
 // The table of waiting records, 16 slots by value (document 01: "The table is handed in and handed
-// back by each operation"). Every table value is good input.
+// back by each operation"), with the number of its records (document 02, W-206). Every table value is
+// good input.
 use records::Identity;
 use records::Record;
+use records::number;
 pub use refusal::Written;
 pub use switchover::Loading;
 ghost use mathlib.Core.Path.{_≡_};
-ghost use lib.ListN.{replicate};
-ghost use Rattle.records.specs.Slots.{empty, holds, zeros, lowest, aged};
+ghost use Rattle.records.specs.Slots.{empty, holds, lowest, aged};
 ghost use Rattle.records.specs.Node.{tableAnswer};
 ghost use Rattle.records.specs.Node.{collect as collect·request};
+ghost use Rattle.records.specs.Number.{readNumber, tickOf};
 ghost use Rattle.refusal.specs.Written.{written};
 ghost use Rattle.image.specs.Image.{writeOf, loadInto};
-ghost use Rattle.table.specs.Table.{slotsOf, addOf, collectOf, tickOf, foundAnswer, entered, taken, counted, reloaded};
+ghost use Rattle.table.specs.Table.{slotsOf, numberOf, made, newOf, addOf, collectOf, foundAnswer, entered, taken, counted, reloaded};
 
+// In a new or a loaded table, and in what the operations make of one, `number` is how many slots hold
+// a record. In any other table it is any octet: over 16 it is read as 16, and no answer but that of
+// `waiting` depends on it.
 pub struct Table {
     pub slots: [Record; 16],
+    pub number: u8,
 }
 
 // A record waits, or the number of the refusal.
@@ -82,10 +88,21 @@ fn age(slot: Record) -> Record
 impl Table {
     // A table with no records: all zeros.
     pub fn new() -> Table
-        ensures { λ r. ⌜ slotsOf r ≡ replicate 16 zeros ⌝ }
+        ensures { λ r. ⌜ made r ≡ newOf ⌝ }
     {
         let slot = Record::zeros();
-        Table { slots: [slot; 16] }
+        Table {
+            slots: [slot; 16],
+            number: 0,
+        }
+    }
+
+    // How many records wait, by the number that the table keeps: at most 16. No slot is looked at.
+    pub fn waiting(self) -> u8
+        ensures { λ r. ⌜ r ≡ readNumber (numberOf self) ⌝ }
+    {
+        let number = self.number;
+        number::read(number)
     }
 
     // The lowest slot that holds a record with this identity; 16 where none does.
@@ -136,7 +153,7 @@ impl Table {
     // Puts a record with a wait of 3 into the lowest empty slot; refusal 13 where one with its
     // identity waits already, 14 where no slot is empty.
     pub fn add(self, identity: Identity, residence: u64) -> Entered
-        ensures { λ r. ⌜ entered r ≡ addOf identity residence (slotsOf self) ⌝ }
+        ensures { λ r. ⌜ entered r ≡ addOf identity residence (slotsOf self) (numberOf self) ⌝ }
     {
         if self.place(identity) < 16 {
             return Entered {
@@ -144,8 +161,9 @@ impl Table {
                 answer: Entry::Refused(refusal::ALREADY_WAITING),
             };
         }
-        let at = self.vacancy();
-        if 16 <= at {
+        let kept = self.number;
+        let vacancy = self.vacancy();
+        if 16 <= vacancy {
             return Entered {
                 table: self,
                 answer: Entry::Refused(refusal::NO_EMPTY_SLOT),
@@ -153,7 +171,7 @@ impl Table {
         }
         let mut slots = self.slots;
         let kind = identity.kind;
-        slots[at] = Record {
+        slots[vacancy] = Record {
             clock: identity.clock,
             port: identity.port,
             sequence: identity.sequence,
@@ -161,7 +179,8 @@ impl Table {
             residence,
             wait: 3,
         };
-        let table = Table { slots };
+        let number = number::one_more(kept);
+        let table = Table { slots, number };
         Entered {
             table,
             answer: Entry::Waiting,
@@ -170,7 +189,7 @@ impl Table {
 
     // Takes the record with this identity out; refusal 15 where there is none.
     pub fn collect(self, identity: Identity) -> Taken
-        ensures { λ r. ⌜ taken r ≡ collectOf identity (slotsOf self) ⌝ }
+        ensures { λ r. ⌜ taken r ≡ collectOf identity (slotsOf self) (numberOf self) ⌝ }
     {
         let at = self.place(identity);
         if 16 <= at {
@@ -182,7 +201,9 @@ impl Table {
         let mut slots = self.slots;
         let slot = slots[at];
         slots[at] = Record::zeros();
-        let table = Table { slots };
+        let kept = self.number;
+        let number = number::fewer(1, kept);
+        let table = Table { slots, number };
         Taken {
             table,
             answer: Found::Residence(slot.residence),
@@ -191,8 +212,9 @@ impl Table {
 
     // Lowers every wait above 0 by one, empties the slots whose wait reaches 0, and counts them.
     pub fn tick(self) -> Ticked
-        ensures { λ r. ⌜ counted r ≡ tickOf (slotsOf self) ⌝ }
+        ensures { λ r. ⌜ counted r ≡ tickOf (slotsOf self) (numberOf self) ⌝ }
     {
+        let kept = self.number;
         let mut slots = self.slots;
         let mut emptied: u8 = 0;
         let mut i: usize = 0;
@@ -204,7 +226,8 @@ impl Table {
             slots[i] = age(slot);
             i += 1;
         }
-        let table = Table { slots };
+        let number = number::fewer(emptied, kept);
+        let table = Table { slots, number };
         Ticked { table, emptied }
     }
 
@@ -219,16 +242,17 @@ impl Table {
     }
 
     // The table that an image loads: its records, of kind Sync, from slot 0 on, in its order, and
-    // zeros. Refusal 22 for any other octets, with the table that came.
+    // zeros; and their number. Refusal 22 for any other octets, with the table that came.
     pub fn load(self, octets: &[u8]) -> Reloaded
-        ensures { λ r. ⌜ reloaded r ≡ loadInto (now (octets .entry)) (slotsOf self) ⌝ }
+        ensures { λ r. ⌜ reloaded r ≡ loadInto (now (octets .entry)) (slotsOf self) (numberOf self) ⌝ }
     {
         let loaded = switchover::load(octets);
         let slots = loaded.slots;
+        let number = loaded.number;
         let answer = loaded.answer;
         match answer {
             Loading::Replaced => {
-                let table = Table { slots };
+                let table = Table { slots, number };
                 Reloaded {
                     table,
                     answer: Loading::Replaced,

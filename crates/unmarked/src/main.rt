@@ -7,6 +7,7 @@ mod headers;
 mod lengths;
 mod limits;
 mod messages;
+mod numbers;
 mod switchovers;
 mod waits;
 
@@ -19,4 +20,5 @@ fn main() {
     clocks::run();
     delays::run();
     ends::run();
+    numbers::run();
 }

@@ -17,7 +17,7 @@ fn print_slot(slot: Record) {
 
 // Loads the octets into the table of a card, prints the answer and the first two slots, and hands
 // the table on.
-fn load(card: Table, octets: &[u8]) -> Table {
+pub(crate) fn load(card: Table, octets: &[u8]) -> Table {
     let loaded = card.load(octets);
     let answer = loaded.answer;
     match answer {
@@ -36,6 +36,7 @@ fn load(card: Table, octets: &[u8]) -> Table {
 pub(crate) fn switch(table: Table) -> Table {
     let card = Table {
         slots: [waits::record(9, 9, 255); 16],
+        number: 255,
     };
     let mut image = [0xAAu8; LARGEST];
     match table.write(&mut image) {
@@ -76,6 +77,7 @@ fn doubled() {
     print::text(b"doubled records");
     let a = switch(Table {
         slots: [waits::record(1, 5, 3); 16],
+        number: 16,
     });
     waits::follow_up(a, types::PTP_IPV4, 1);
     print::end_line();

@@ -49,7 +49,7 @@ pub(crate) fn read(s: &[u8]) -> Table {
         slots[i] = slot(format::after(s, i * SLOT_SIZE));
         i += 1;
     }
-    Table { slots }
+    Table { slots, number: 0 }
 }
 
 fn print_slot(slot: Record) {

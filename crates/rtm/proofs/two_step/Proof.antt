@@ -26,7 +26,8 @@ returns : tie.Need-returns
 returns c =
     let a = c .before .before .before .before .before .before .before .before .before .before .args in
     let e = same-residence (c .before .before .before .before .before .residence-of .result) (residenceOf (a .stamps)) (c .before .before .before .before .before .residence-of .ensures) in
-    c .before .before .before .before .handle-two-step .ensures ∙ ap (λ (x : Residence). callOf (a .table .slots) (twoStepCall (a .message .now) (a .output .now) x)) e
+    c .before .before .before .before .handle-two-step .ensures
+    ∙ ap (λ (x : Residence). callOf (a .table .slots) (a .table .number) (twoStepCall (a .message .now) (a .output .now) x)) e
 
 pub two-step-spec : {M : Type 1} → statement M
 two-step-spec =

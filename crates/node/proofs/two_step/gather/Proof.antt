@@ -6,7 +6,7 @@ use mathlib.Core.List.{List}
 use Rattle.refusal.specs.Answer.{value}
 use Rattle.table.specs.declared.Found.{Found}
 use Rattle.table.specs.declared.Found.the-variants.{Residence, Refused}
-use Rattle.table.specs.Table.{foundAnswer}
+use Rattle.table.specs.Table.{handedBack, foundAnswer}
 use Rattle.rules.specs.Rules.{added}
 use Rattle.node.proofs.Replies.{gathered}
 use borrow.Author.Needs.{needs}
@@ -17,17 +17,17 @@ returns : tie.Need-returns
 returns c = λ k o x.
     let p = c .before .before .before .before .before in
     let a = p .before .before .before .before .before .args in
-    let t = p .before .before .before .collect .result .table .slots in
-    let e = ap (λ (y : Found). record { answer = foundAnswer y; slots = t }) (sym (p .found .given .1)) ∙ p .before .before .before .collect .ensures in
-    ap (λ (y : List ℕ). record { reply = record { answer = value added; message = y; output = o }; slots = t }) (c .before .before .add-to-pad .ensures)
-    ∙ gathered k (a .table .slots) (a .identity) (record { answer = foundAnswer (Residence (p .found .given .0 .0)); slots = t }) e (a .message .now) o x
+    let t = p .before .before .before .collect .result .table in
+    let e = ap (λ (y : Found). handedBack (foundAnswer y) t) (sym (p .found .given .1)) ∙ p .before .before .before .collect .ensures in
+    ap (λ (y : List ℕ). record { reply = record { answer = value added; message = y; output = o }; slots = t .slots; number = t .number }) (c .before .before .add-to-pad .ensures)
+    ∙ gathered k (a .table .slots) (a .table .number) (a .identity) (handedBack (foundAnswer (Residence (p .found .given .0 .0))) t) e (a .message .now) o x
 
 returns-2 : tie.Need-returns-2
 returns-2 c = λ k o x.
     let a = c .before .before .before .before .before .before .args in
-    let t = c .before .before .before .before .collect .result .table .slots in
-    let e = ap (λ (y : Found). record { answer = foundAnswer y; slots = t }) (sym (c .before .found2 .given .1)) ∙ c .before .before .before .before .collect .ensures in
-    gathered k (a .table .slots) (a .identity) (record { answer = foundAnswer (Refused (c .before .found2 .given .0 .0)); slots = t }) e (a .message .now) o x
+    let t = c .before .before .before .before .collect .result .table in
+    let e = ap (λ (y : Found). handedBack (foundAnswer y) t) (sym (c .before .found2 .given .1)) ∙ c .before .before .before .before .collect .ensures in
+    gathered k (a .table .slots) (a .table .number) (a .identity) (handedBack (foundAnswer (Refused (c .before .found2 .given .0 .0))) t) e (a .message .now) o x
 
 pub gather-spec : {M : Type 1} → statement M
 gather-spec =

@@ -19,8 +19,8 @@ returns-2 : tie.Need-returns-2
 returns-2 c = λ m o.
     let a = c .before .before .before .before .args in
     let e = ap unitsAnswer (sym (c .before .n .given .1)) ∙ c .before .before .before .accept .ensures in
-    no-residence (a .table .slots) (a .identity) true m o (a .residence) (c .before .n .given .0 .0) (sym e)
-    ∙ first-alike (a .table .slots) (a .identity) m o (a .residence) Delay
+    no-residence (a .table .slots) (a .table .number) (a .identity) true m o (a .residence) (c .before .n .given .0 .0) (sym e)
+    ∙ first-alike (a .table .slots) (a .table .number) (a .identity) m o (a .residence) Delay
 
 pub handle-delay-req-spec : {M : Type 1} → statement M
 handle-delay-req-spec =

@@ -19,7 +19,7 @@ returns : tie.Need-returns
 returns c =
     let a = c .before .before .before .before .before .before .before .before .before .before .before .before .before .before .args in
     c .before .before .before .before .handle-sync .ensures
-    ∙ ap (callBy (a .table .slots) (twoStepCall (a .message .now) (a .output .now) (a .residence)))
+    ∙ ap (callBy (a .table .slots) (a .table .number) (twoStepCall (a .message .now) (a .output .now) (a .residence)))
     (ap kindAnswer (sym (c .before .before .before .before .before .before .before .before .identity .given .1))
     ∙ c .before .before .before .before .before .before .before .before .before .before .classify .ensures)
 
@@ -27,7 +27,7 @@ returns-2 : tie.Need-returns-2
 returns-2 c =
     let a = c .before .before .before .before .before .before .before .before .before .before .before .args in
     c .before .before .gather .ensures Sync (a .output .now) (a .residence)
-    ∙ ap (callBy (a .table .slots) (twoStepCall (a .message .now) (a .output .now) (a .residence)))
+    ∙ ap (callBy (a .table .slots) (a .table .number) (twoStepCall (a .message .now) (a .output .now) (a .residence)))
     (ap kindAnswer (sym (c .before .before .before .before .before .identity2 .given .1))
     ∙ c .before .before .before .before .before .before .before .classify .ensures)
 
@@ -35,33 +35,33 @@ returns-3 : tie.Need-returns-3
 returns-3 c =
     let a = c .before .before .before .before .before .before .before .before .args in
     c .handle-delay-req .ensures (a .message .now) (a .output .now)
-    ∙ ap (callBy (a .table .slots) (twoStepCall (a .message .now) (a .output .now) (a .residence)))
+    ∙ ap (callBy (a .table .slots) (a .table .number) (twoStepCall (a .message .now) (a .output .now) (a .residence)))
     (ap kindAnswer (sym (c .before .before .identity3 .given .1)) ∙ c .before .before .before .before .classify .ensures)
 
 returns-4 : tie.Need-returns-4
 returns-4 c =
     let a = c .before .before .before .before .before .before .before .before .before .before .before .args in
     c .before .before .gather2 .ensures Delay (a .output .now) (a .residence)
-    ∙ ap (callBy (a .table .slots) (twoStepCall (a .message .now) (a .output .now) (a .residence)))
+    ∙ ap (callBy (a .table .slots) (a .table .number) (twoStepCall (a .message .now) (a .output .now) (a .residence)))
     (ap kindAnswer (sym (c .before .before .before .before .before .identity4 .given .1))
     ∙ c .before .before .before .before .before .before .before .classify .ensures)
 
 returns-5 : tie.Need-returns-5
 returns-5 c =
     let a = c .before .before .before .before .before .before .args in
-    ap (callBy (a .table .slots) (twoStepCall (a .message .now) (a .output .now) (a .residence)))
+    ap (callBy (a .table .slots) (a .table .number) (twoStepCall (a .message .now) (a .output .now) (a .residence)))
     (ap kindAnswer (sym (c .enum-told .given .1)) ∙ c .before .before .classify .ensures)
 
 returns-6 : tie.Need-returns-6
 returns-6 c =
     let a = c .before .before .before .before .before .before .args in
-    ap (callBy (a .table .slots) (twoStepCall (a .message .now) (a .output .now) (a .residence)))
+    ap (callBy (a .table .slots) (a .table .number) (twoStepCall (a .message .now) (a .output .now) (a .residence)))
     (ap kindAnswer (sym (c .enum-told2 .given .1)) ∙ c .before .before .classify .ensures)
 
 returns-7 : tie.Need-returns-7
 returns-7 c =
     let a = c .before .before .before .before .before .before .before .args in
-    ap (callBy (a .table .slots) (twoStepCall (a .message .now) (a .output .now) (a .residence)))
+    ap (callBy (a .table .slots) (a .table .number) (twoStepCall (a .message .now) (a .output .now) (a .residence)))
     (ap kindAnswer (sym (c .before .n .given .1)) ∙ c .before .before .before .classify .ensures)
 
 pub handle-two-step-spec : {M : Type 1} → statement M

@@ -1,17 +1,13 @@
 -- `load` meets its contract: each test on the way to a refusal is one that `loadOf` makes, and the slots read are its records.
 -- Assumes nothing.
-use mathlib.Core.Path.{_≡_, refl, sym, ap, _∙_}
+use mathlib.Core.Path.{_≡_, sym, ap, _∙_}
 use mathlib.Core.Bool.{true, false}
 use borrow.Author.Tests.{not-true, not-false}
 use native.Mathlib.Omega.{arith}
-use lib.ListN.{replicate}
-use Rattle.refusal.specs.Answer.{Answer, value}
-use Rattle.records.specs.Slots.{Slots, zeros}
 use Rattle.image.specs.Layout.{isLaidOut}
-use Rattle.image.specs.Image.{form, loadable, recordsAt, loadBy}
-use Rattle.image.proofs.Returns.{load-taken}
+use Rattle.image.specs.Image.{form, loadable, recordsAt}
 use Rattle.switchover.specs.Answers.{loaded}
-use Rattle.switchover.proofs.Loads.{unlaid, unloadable, too-many, not-loaded, read-filled, read-records}
+use Rattle.switchover.proofs.Loads.{unlaid, unloadable, too-many, not-loaded, read-records, read-loaded}
 use borrow.Author.Needs.{needs}
 use Rattle.switchover.proofs.loader.load.Statement.{statement}
 use Rattle.switchover.proofs.loader.load.Tie as tie
@@ -45,9 +41,7 @@ returns-3 c =
     let n = b .before .before .before .before in
     let s = n .before .before .before .args .image .now in
     let laid : isLaidOut form s ≡ true = sym (b .before .before .is-laid-out .ensures) ∙ not-false _ (b .before .if2 .left) in
-    let l = b .read-bodies .result in
-    ap (λ (a : Answer Slots). loadBy (replicate 16 zeros) a)
-    (ap value (read-filled s (n .count .result) l (n .count .ensures) (b .read-bodies .ensures)) ∙ sym (load-taken s (recordsAt s) laid refl (judged p ∙ c .if3 .taken)))
+    read-loaded s (n .count .result) (b .read-bodies .result) (n .count .ensures) (b .read-bodies .ensures) laid (judged p ∙ c .if3 .taken)
 
 returns-4 : tie.Need-returns-4
 returns-4 c =
@@ -64,7 +58,7 @@ load-spec =
     returns
     (λ c κs. search needs) (λ c κs. search needs)
     returns-2
-    (λ c κs. search needs) (λ c κs. search needs)
+    (λ c κs. search needs) (λ c κs. search needs) (λ c. search needs)
     returns-3
     (λ c κs. search needs)
     returns-4)

@@ -1,4 +1,5 @@
--- `Table::add` meets its contract: its two searches say whether the identity waits and which slot is the lowest empty one.
+-- `Table::add` meets its contract: its two searches say whether the identity waits and which slot is the lowest empty one, and the number
+-- has no part in it.
 -- Assumes nothing.
 use mathlib.Core.Path.{_≡_}
 use borrow.Author.Needs.{needs}
@@ -36,16 +37,20 @@ mul-slots c = search needs
 array-set-from-slots : tie.Need-array-set-from-slots
 array-set-from-slots c = search needs
 
+one-more-requires : tie.Need-one-more-requires
+one-more-requires c κs = search needs
+
 returns-3 : tie.Need-returns-3
 returns-3 c =
-    let p = c .before .before .before .before in
+    let p = c .before .before .before .before .before in
     let a = p .before .args in
     let l = a .self .slots in
     let n : length l ≡ 16 = simp length-map at (p .before .good .0 .1 .1 .0 .1 .0 .1) in
     rw (
       found-none (a .identity) l (p .place .result) n (p .place .ensures) (omega arith),
       lt-ltb (lowest empty l) (length l) (omega arith),
-      c .before .before .vacancy .ensures,
+      c .before .before .before .vacancy .ensures,
+      c .one-more .ensures,
     )
 
 pub add-spec : {M : Type 1} → statement M
@@ -58,4 +63,5 @@ add-spec =
     returns-2
     mul-slots
     array-set-from-slots
+    one-more-requires
     returns-3)

@@ -1,7 +1,8 @@
--- `Table::tick` meets its contract: before each turn the slots below `i` have aged, and those of them that were emptied are counted.
+-- `Table::tick` meets its contract: before each turn the slots below `i` have aged, and those of them that were emptied are counted. So
+-- many the number loses.
 -- Assumes nothing.
-use Prim.Native.Nat.{_-_}
-use mathlib.Core.Path.{refl}
+use Prim.Native.Nat.{ℕ, _-_}
+use mathlib.Core.Path.{refl, ap, _∙_}
 use mathlib.Core.Logic.{⊎-elim}
 use borrow.Author.Needs.{needs}
 use borrow.Author.Tests.{eq-eqb, ne-eqb}
@@ -9,15 +10,16 @@ use native.Mathlib.Omega.{arith}
 use lib.ListN.{length-map, getD}
 use Rattle.refusal.specs.Answer.{value}
 use Rattle.records.specs.Slots.{zeros}
+use Rattle.records.specs.Number.{fewer}
 use Rattle.table.proofs.Sweep.{Swept, sweep-on, sweep-done}
 use Rattle.table.proofs.Table.tick.Statement.{statement}
 use Rattle.table.proofs.Table.tick.Tie as tie
 
 abbrev Inv-loop : tie.InvT-loop
-Inv-loop slots₀ emptied₀ i₀ slots emptied i = Swept slots₀ slots emptied i
+Inv-loop kept slots₀ emptied₀ i₀ slots emptied i = Swept slots₀ slots emptied i
 
 abbrev μ-loop : tie.MeasureT-loop
-μ-loop slots₀ emptied₀ i₀ slots emptied i = 16 - i
+μ-loop kept slots₀ emptied₀ i₀ slots emptied i = 16 - i
 
 loop-holds : tie.Need-loop-holds Inv-loop μ-loop
 loop-holds c = (omega arith, omega arith, simp length-map at (c .before .good .0 .1 .1 .0 .1 .0 .1), refl, omega arith)
@@ -55,11 +57,16 @@ loop-again c =
     (c .age .ensures)
     (⊎-elim (λ d. rw (eq-eqb w 1 (d .0 .taken)) (d .1)) (λ d. rw (ne-eqb w 1 (d .0 .left)) (d .1)) (c .before .if1 .came))
 
+fewer-requires : tie.Need-fewer-requires Inv-loop μ-loop
+fewer-requires c κs = search needs
+
 returns : tie.Need-returns Inv-loop μ-loop
 returns c =
-    let p = c .before in
-    let d = sweep-done (p .before .before .args .self .slots) (p .loop .slots) (p .loop .emptied) (p .loop .i) (p .loop .inv) (omega arith) in
-    λ k. record { answer = value (d .1 k); slots = d .0 k }
+    let p = c .before .before in
+    let t = p .before .before .args .self in
+    let d = sweep-done (t .slots) (p .loop .slots) (p .loop .emptied) (p .loop .i) (p .loop .inv) (omega arith) in
+    let n = c .fewer .ensures ∙ ap (λ (m : ℕ). fewer m (t .number)) (d .1) in
+    λ k. record { answer = value (d .1 k); slots = d .0 k; number = n k }
 
 pub tick-spec : {M : Type 1} → statement M
 tick-spec =
@@ -77,4 +84,5 @@ tick-spec =
     add-i
     loop-less
     loop-again
+    fewer-requires
     returns)
