@@ -36,6 +36,7 @@ fn run(operation: u8, body: &[u8]) {
         17 => requests::run_add(body),
         18 => requests::run_collect(body),
         19 => images::run_replace(body),
+        20 => requests::run_waiting(body),
         _ => return,
     }
     print::end_line();

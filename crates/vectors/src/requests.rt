@@ -1,4 +1,4 @@
-// Operations 17 and 18: a record added to a table, and one collected from it.
+// Operations 17, 18 and 20: a record added to a table, one collected from it, and how many wait there.
 use crate::format;
 use crate::tables;
 use table::Entry;
@@ -30,4 +30,8 @@ pub(crate) fn run_collect(body: &[u8]) {
     }
     ;
     tables::show(taken.table);
+}
+
+pub(crate) fn run_waiting(body: &[u8]) {
+    print::number(b"waiting ", tables::read(body).waiting() as u64);
 }

@@ -1,5 +1,6 @@
-// A table in a case and in a line: 16 slots of 22 octets, each kind (1: 0 Sync, 1 Delay), port
-// identity (clock identity 8, port number 2), sequence (2), residence in pad units (8) and wait (1).
+// A table in a case and in a line: its number (1), and 16 slots of 22 octets, each kind (1: 0 Sync, 1
+// Delay), port identity (clock identity 8, port number 2), sequence (2), residence in pad units (8)
+// and wait (1).
 use crate::format;
 use libc::STDOUT_FILENO;
 use records::Identity;
@@ -8,7 +9,9 @@ use records::RecordKind;
 use table::Table;
 
 // The octets of a table.
-pub(crate) const SIZE: usize = 352;
+pub(crate) const SIZE: usize = SLOTS + 352;
+
+const SLOTS: usize = 1;
 
 const SLOT_SIZE: usize = 22;
 
@@ -40,8 +43,8 @@ fn slot(s: &[u8]) -> Record {
     }
 }
 
-// The table at the start of s.
-pub(crate) fn read(s: &[u8]) -> Table {
+// The slots at the start of s.
+fn read_slots(s: &[u8]) -> [Record; 16] {
     let first = slot(s);
     let mut slots = [first; 16];
     let mut i: usize = 1;
@@ -49,7 +52,14 @@ pub(crate) fn read(s: &[u8]) -> Table {
         slots[i] = slot(format::after(s, i * SLOT_SIZE));
         i += 1;
     }
-    Table { slots, number: 0 }
+    slots
+}
+
+// The table at the start of s.
+pub(crate) fn read(s: &[u8]) -> Table {
+    let number = octets::read8(s, 0);
+    let slots = read_slots(format::after(s, SLOTS));
+    Table { slots, number }
 }
 
 fn print_slot(slot: Record) {
@@ -62,12 +72,17 @@ fn print_slot(slot: Record) {
     io::print_hex(STDOUT_FILENO, slot.wait as u64, 2);
 }
 
-pub(crate) fn show(table: Table) {
-    print::text(b" table ");
-    let slots = table.slots;
+fn print_slots(slots: [Record; 16]) {
     let mut i: usize = 0;
     while i < 16 {
         print_slot(slots[i]);
         i += 1;
     }
+}
+
+pub(crate) fn show(table: Table) {
+    print::text(b" table ");
+    io::print_hex(STDOUT_FILENO, table.number as u64, 2);
+    let slots = table.slots;
+    print_slots(slots);
 }

@@ -1,9 +1,9 @@
--- `read` is safe and ends: the measure is the number of slots that are left.
+-- `read_slots` is safe and ends: the measure is the number of slots that are left.
 -- Assumes nothing.
 use Prim.Native.Nat.{_-_, _≤_}
 use borrow.Author.Needs.{needs}
-use Rattle.vectors.proofs.tables.read.Statement.{statement}
-use Rattle.vectors.proofs.tables.read.Tie as tie
+use Rattle.vectors.proofs.tables.read_slots.Statement.{statement}
+use Rattle.vectors.proofs.tables.read_slots.Tie as tie
 
 abbrev Inv-loop : tie.InvT-loop
 Inv-loop s slots₀ i₀ slots i = i ≤ 16
@@ -44,8 +44,8 @@ loop-again c = search needs
 returns : tie.Need-returns Inv-loop μ-loop
 returns c = search needs
 
-pub read-spec : {M : Type 1} → statement M
-read-spec =
+pub read-slots-spec : {M : Type 1} → statement M
+read-slots-spec =
     tie.close
     (tie.spec
     Inv-loop

@@ -1,21 +1,15 @@
--- `show` is safe and ends: the measure is the number of slots that are left.
+-- `print_slots` is safe and ends: the measure is the number of slots that are left.
 -- Assumes what libc says of its `write`, through `io`.
 use Prim.Native.Nat.{_-_, _≤_}
 use borrow.Author.Needs.{needs}
-use Rattle.vectors.proofs.tables.show.Statement.{statement}
-use Rattle.vectors.proofs.tables.show.Tie as tie
+use Rattle.vectors.proofs.tables.print_slots.Statement.{statement}
+use Rattle.vectors.proofs.tables.print_slots.Tie as tie
 
 abbrev Inv-loop : tie.InvT-loop
 Inv-loop slots i₀ i = i ≤ 16
 
 abbrev μ-loop : tie.MeasureT-loop
 μ-loop slots i₀ i = 16 - i
-
-slice-aggregate-text : tie.Need-slice-aggregate-text Inv-loop μ-loop
-slice-aggregate-text c = search needs
-
-text-requires : tie.Need-text-requires Inv-loop μ-loop
-text-requires c κs = search needs
 
 loop-holds : tie.Need-loop-holds Inv-loop μ-loop
 loop-holds c = search needs
@@ -41,14 +35,12 @@ loop-again c = search needs
 returns : tie.Need-returns Inv-loop μ-loop
 returns c = search needs
 
-pub show-spec : {M : Type 1} → statement M
-show-spec =
+pub print-slots-spec : {M : Type 1} → statement M
+print-slots-spec =
     tie.close
     (tie.spec
     Inv-loop
     μ-loop
-    slice-aggregate-text
-    text-requires
     loop-holds
     mul-print-slot
     array-copy-out-print-slot
