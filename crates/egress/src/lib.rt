@@ -1,15 +1,14 @@
 // Joining at the egress (document 01, Writing and joining): the total of a Sync's pad and its
 // Follow_Up's, and the packet shown.
-use message::Header;
 use message::SubTlv;
+use message::is_ptp;
 use message::types;
-use reader::Reading;
 use scratch_pad::Sum;
 ghost use mathlib.Core.Path.{_≡_};
-ghost use Rattle.reader.specs.Answers.{readAnswer};
-ghost use Rattle.refusal.specs.Answer.{value};
-ghost use Rattle.message.specs.Read.{ptp};
-ghost use Rattle.egress.specs.Join.{alike, isPair, joinBy, joinOf, orElse, shownOf, joinAnswer};
+ghost use Rattle.refusal.specs.Answer.{refusalIn};
+ghost use Rattle.message.specs.Read.{readOf, contentOf};
+ghost use Rattle.egress.specs.Join.{isPair, joinOf, orElse, shownOf, joinAnswer};
+ghost use Rattle.egress.specs.Pair.{sameType, sameExchange};
 
 // The total of the two pads, or the number of the refusal.
 pub enum Joined {
@@ -17,13 +16,21 @@ pub enum Joined {
     Refused(u8),
 }
 
-// Two messages of the same Type, port identity and sequence.
-fn same_exchange(h: Header, t: SubTlv, g: Header, u: SubTlv) -> bool
-    ensures { λ r. ⌜ r ≡ alike h t g u ⌝ }
+// Both of one Type, and that one of 2 to 4.
+fn same_type(sync: &[u8], follow_up: &[u8]) -> bool
+    ensures { λ r. ⌜ r ≡ sameType (now (sync .entry)) (now («follow_up» .entry)) ⌝ }
 {
-    if h.message_type != g.message_type {
+    let message_type = reader::message_type(sync);
+    if message_type != reader::message_type(follow_up) {
         return false;
     }
+    is_ptp(message_type)
+}
+
+// Two sub-TLVs of the same port identity and sequence.
+fn same_exchange(t: SubTlv, u: SubTlv) -> bool
+    ensures { λ r. ⌜ r ≡ sameExchange t u ⌝ }
+{
     if t.clock != u.clock {
         return false;
     }
@@ -33,10 +40,16 @@ fn same_exchange(h: Header, t: SubTlv, g: Header, u: SubTlv) -> bool
     t.sequence == u.sequence
 }
 
-// A Sync with S set and a Follow_Up of the same exchange.
-fn are_pair(h: Header, t: SubTlv, g: Header, u: SubTlv) -> bool
-    ensures { λ r. ⌜ r ≡ isPair (ptp h t) (ptp g u) ⌝ }
+// Two readable messages, a Sync with S set and a Follow_Up of the same exchange.
+fn are_pair(sync: &[u8], follow_up: &[u8]) -> bool
+    requires { ⌜ (refusalIn (readOf (now sync)) ≡ 0) × (refusalIn (readOf (now «follow_up»)) ≡ 0) ⌝ }
+    ensures { λ r. ⌜ r ≡ isPair (contentOf (now (sync .entry))) (contentOf (now («follow_up» .entry))) ⌝ }
 {
+    if !same_type(sync, follow_up) {
+        return false;
+    }
+    let t = reader::sub_tlv(reader::value(sync));
+    let u = reader::sub_tlv(reader::value(follow_up));
     if t.ptp_type != types::SYNC {
         return false;
     }
@@ -46,26 +59,7 @@ fn are_pair(h: Header, t: SubTlv, g: Header, u: SubTlv) -> bool
     if u.ptp_type != types::FOLLOW_UP {
         return false;
     }
-    same_exchange(h, t, g, u)
-}
-
-// A message of types 2 to 4 in the place of the Sync, and what was read in that of the Follow_Up.
-fn join_to(h: Header, t: SubTlv, follow_up: Reading) -> Joined
-    ensures { λ r. ⌜ joinAnswer r ≡ joinBy (value (ptp h t)) (readAnswer «follow_up») ⌝ }
-{
-    match follow_up {
-        Reading::Ptp(g, u) => {
-            if !are_pair(h, t, g, u) {
-                return Joined::Refused(refusal::NOT_A_PAIR);
-            }
-            match scratch_pad::add_pads(h.pad, g.pad) {
-                Sum::Of(total) => Joined::Total(total),
-                Sum::Refused(n) => Joined::Refused(n),
-            }
-        }
-        Reading::Plain(_) => Joined::Refused(refusal::NOT_A_PAIR),
-        Reading::Refused(n) => Joined::Refused(n),
-    }
+    same_exchange(t, u)
 }
 
 // The total of the two pads, the largest pad where that is too big: the Sync's refusals 1 to 8, the
@@ -73,14 +67,20 @@ fn join_to(h: Header, t: SubTlv, follow_up: Reading) -> Joined
 pub fn join(sync: &[u8], follow_up: &[u8]) -> Joined
     ensures { λ r. ⌜ joinAnswer r ≡ joinOf (now (sync .entry)) (now («follow_up» .entry)) ⌝ }
 {
-    match reader::read(sync) {
-        Reading::Ptp(h, t) => join_to(h, t, reader::read(follow_up)),
-        Reading::Plain(_) => match reader::read(follow_up) {
-            Reading::Refused(n) => Joined::Refused(n),
-            Reading::Plain(_) => Joined::Refused(refusal::NOT_A_PAIR),
-            Reading::Ptp(_, _) => Joined::Refused(refusal::NOT_A_PAIR),
-        },
-        Reading::Refused(n) => Joined::Refused(n),
+    let n = reader::check(sync);
+    if n != 0 {
+        return Joined::Refused(n);
+    }
+    let n = reader::check(follow_up);
+    if n != 0 {
+        return Joined::Refused(n);
+    }
+    if !are_pair(sync, follow_up) {
+        return Joined::Refused(refusal::NOT_A_PAIR);
+    }
+    match scratch_pad::add_pads(reader::pad(sync), reader::pad(follow_up)) {
+        Sum::Of(total) => Joined::Total(total),
+        Sum::Refused(n) => Joined::Refused(n),
     }
 }
 

@@ -9,8 +9,8 @@ use lib.Dec.{ltb, leb, eqb}
 use Rattle.refusal.specs.Answer.{Answer, value, refuse}
 use Rattle.refusal.proofs.Answers.{passes}
 use Rattle.message.specs.declared.fields.SubTlv.{SubTlv}
-use Rattle.message.specs.Read.{isType, isSubTlvLength}
-use Rattle.message.specs.Write.{isPtp, carriedAt, fitOf, sizeOf}
+use Rattle.message.specs.Read.{isType, isPtp, isSubTlvLength}
+use Rattle.message.specs.Write.{carriedAt, fitOf, sizeOf}
 
 -- the known Types, and those with a sub-TLV
 pub known-types : (t : ℕ) → isType t ≡ true → (1 ≤ t) × (t ≤ 5)

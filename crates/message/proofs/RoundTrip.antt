@@ -5,8 +5,8 @@ use mathlib.Core.Path.{_≡_, refl, sym, ap, _∙_}
 use mathlib.Core.Bool.{Bool, true, false, not, cond, _&&_}
 use mathlib.Core.List.{List, _++_}
 use native.Mathlib.Omega.{arith}
-use borrow.Author.Tests.{eq-eqb, ne-eqb, eqb-false, ltb-false, not-false}
-use lib.Dec.{ltb, leb, eqb}
+use borrow.Author.Tests.{ltb-false, not-false}
+use lib.Dec.{ltb, leb}
 use lib.ListN.{length, take, drop}
 use lib.Seq.{take-at}
 use mir.Syntax.{w64}
@@ -14,15 +14,16 @@ use mir.Val.{SFits, toZ, ofZ}
 use mir.ValLaws.{toZ-ofZ, ofZ-fits}
 use Rattle.octets.specs.Octets.{number, octets, signedOctets, signedNumber}
 use Rattle.octets.proofs.Numbers.{number-octets}
-use Rattle.refusal.specs.Answer.{Answer, value, andThen}
+use Rattle.refusal.specs.Answer.{Answer, value, refuse, andThen}
 use Rattle.message.specs.declared.fields.Header.{Header}
 use Rattle.message.specs.declared.fields.SubTlv.{SubTlv}
 use Rattle.message.specs.declared.fields.Fields.{Fields}
-use Rattle.message.specs.Read.{Message, plain, ptp, isType, isSubTlvLength, subTlv, header, headerOf, subTlvOf, messageOf, readOf, carriedBy, carriedOf}
-use Rattle.message.specs.Write.{isPtp, gAchHeader, headerOctets, subTlvHeader, flagOctets, subTlvOctets, ptpOctets, plainOctets, messageOctets, outputBy, writeOf}
+use Rattle.message.specs.Read.{Message, plain, ptp, isType, isPtp, isSubTlvLength, subTlv, header, headerOf, subTlvOf, messageOf, readOf, carriedBy, carriedOf}
+use Rattle.message.specs.Write.{gAchHeader, headerOctets, subTlvHeader, flagOctets, subTlvOctets, ptpOctets, plainOctets, messageOctets, outputBy, writeOf}
 use Rattle.message.specs.RoundTrip.{Sized, reported, RoundTrip}
 use Rattle.message.proofs.Sound.{header-taken, sub-tlv-taken}
-use Rattle.message.proofs.Accepted.{Accepted, accepted, known-types, ptp-types, plain-types, sub-tlv-lengths, ptp-size, plain-size}
+use Rattle.message.proofs.Accepted.{Accepted, accepted, known-types, sub-tlv-lengths, ptp-size, plain-size}
+use Rattle.message.proofs.Content.{ptp-value, plain-value}
 
 module _ (h : Header) (v : List ℕ) (fits : SFits w64 (h .pad)) (known : isType (h .«message_type») ≡ true) (short : length v ≤ 2032) where
   header-pad : signedNumber (headerOctets h (length v) ++ v) 4 ≡ h .pad
@@ -87,8 +88,6 @@ module _ (f : Fields) (v : List ℕ) (room n : ℕ) (w : Sized f) (a : Accepted 
   ptp-read p =
       let h = f .header in
       let t = f .«sub_tlv» in
-      let ty = h .«message_type» in
-      let r = ptp-types ty p in
       let z = ptp-size a p in
       let k : t .«ptp_type» ≤ 15 = ltb-false 15 (t .«ptp_type») (ap (λ (b : Bool). b && ltb 15 (t .«ptp_type»)) (sym p) ∙ a .kind) in
       let l : isSubTlvLength (t .length) ≡ true = not-false (isSubTlvLength (t .length)) (ap (λ (b : Bool). b && not (isSubTlvLength (t .length))) (sym p) ∙ a .stated) in
@@ -97,27 +96,16 @@ module _ (f : Fields) (v : List ℕ) (room n : ℕ) (w : Sized f) (a : Accepted 
       let g = sub-tlv-read t v l k (w .clock) (w .port) (w .sequence) in
       ap (λ (k : ℕ). readOf (headerOctets h k ++ (subTlvOctets t ++ v))) size
       ∙ ap (λ (x : Answer Header). andThen x (λ y. messageOf y (subTlvOctets t ++ v))) e
-      ∙ simp (ne-eqb ty 1 (λ q. omega arith), ne-eqb ty 5 (λ q. omega arith), g)
+      ∙ ptp-value h (subTlvOctets t ++ v) p
+      ∙ ap (λ (x : Answer SubTlv). andThen x (λ y. value (ptp h y))) g
 
   plain-read : isPtp (f .header .«message_type») ≡ false → readOf (plainOctets (f .header) v) ≡ value (plain (f .header))
   plain-read p =
       let h = f .header in
-      let ty = h .«message_type» in
       let z = plain-size a p in
       ap (λ (x : Answer Header). andThen x (λ y. messageOf y v)) (header-read h v (w .pad) (a .known) (omega arith))
-      ∙ by-type (eqb ty 1) refl
-    where
-      by-type : (b : Bool) → eqb (f .header .«message_type») 1 ≡ b → messageOf (f .header) v ≡ value (plain (f .header))
-      by-type true q =
-          let none : ltb 0 (length v) ≡ false = ap (λ (b : Bool). b && ltb 0 (length v)) (sym q) ∙ a .empty in
-          simp (q, none)
-      by-type false q =
-          let ty = f .header .«message_type» in
-          let r = known-types ty (a .known) in
-          let other = eqb-false ty 1 q in
-          let above : 4 < ty = plain-types ty p (omega arith) in
-          let five : ty ≡ 5 = omega arith in
-          simp (q, eq-eqb ty 5 five)
+      ∙ plain-value h v (a .known) p
+      ∙ ap (λ (b : Bool). refuse 7 b (value (plain h))) (a .empty)
 
 -- the octets written are the message, and what stands behind its fields is the packet
 pub round-trip : RoundTrip

@@ -38,6 +38,10 @@ messageValue s = drop 16 s
 abbrev pub isType : ℕ → Bool
 isType t = leb 1 t && leb t 5
 
+-- "Types 2 to 4 begin the Value with the sub-TLV"
+abbrev pub isPtp : ℕ → Bool
+isPtp t = leb 2 t && leb t 4
+
 -- 1 to 6, in their order
 abbrev pub headerOf : List ℕ → Answer Header
 headerOf s =
@@ -87,6 +91,10 @@ messageOf h v =
 
 abbrev pub readOf : List ℕ → Answer Message
 readOf s = andThen (headerOf s) (λ h. messageOf h (messageValue s))
+
+-- what a message says that has nothing to refuse
+abbrev pub contentOf : List ℕ → Message
+contentOf s = cond (isPtp (header s .«message_type»)) (ptp (header s) (subTlv (messageValue s))) (plain (header s))
 
 -- "the carried packet, perhaps empty, starts at octet 36", whichever length the sub-TLV states (W-202: "The octets are the same.");
 -- "for type 5 the whole Value" (that of type 1 is empty). A refused message has none before its end

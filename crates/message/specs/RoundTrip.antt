@@ -8,8 +8,8 @@ use mir.Syntax.{w64}
 use mir.Val.{SFits}
 use Rattle.refusal.specs.Answer.{value}
 use Rattle.message.specs.declared.fields.Fields.{Fields}
-use Rattle.message.specs.Read.{Message, plain, ptp, readOf, carriedOf}
-use Rattle.message.specs.Write.{isPtp, writeOf}
+use Rattle.message.specs.Read.{Message, plain, ptp, isPtp, readOf, carriedOf}
+use Rattle.message.specs.Write.{writeOf}
 
 -- the fields are numbers of their types, as they are in every value that the code is handed
 pub record Sized (f : Fields) : Type 0 where

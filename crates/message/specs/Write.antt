@@ -2,7 +2,7 @@
 use Prim.Native.Nat.{ℕ, _+_}
 use mathlib.Core.Bool.{Bool, cond, not, _&&_}
 use mathlib.Core.List.{List, [], _∷_, _++_}
-use lib.Dec.{ltb, leb, eqb}
+use lib.Dec.{ltb, eqb}
 use lib.ListN.{length, drop}
 use Rattle.octets.specs.Octets.{octets, signedOctets}
 use Rattle.refusal.specs.Answer.{Answer, value, refused, refuse}
@@ -10,11 +10,7 @@ use Rattle.refusal.specs.Written.{Write}
 use Rattle.message.specs.declared.fields.Header.{Header}
 use Rattle.message.specs.declared.fields.SubTlv.{SubTlv}
 use Rattle.message.specs.declared.fields.Fields.{Fields}
-use Rattle.message.specs.Read.{isType, isSubTlvLength}
-
--- "Types 2 to 4 begin the Value with the sub-TLV"
-abbrev pub isPtp : ℕ → Bool
-isPtp t = leb 2 t && leb t 4
+use Rattle.message.specs.Read.{isType, isPtp, isSubTlvLength}
 
 -- Octets 0 to 3: 10 00 00 0F
 abbrev pub gAchHeader : List ℕ

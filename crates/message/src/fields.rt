@@ -1,7 +1,8 @@
 // What a message says, beside the packet that it carries.
 use crate::layout;
+use crate::types;
 ghost use mathlib.Core.Path.{_≡_};
-ghost use Rattle.message.specs.Read.{isSubTlvLength};
+ghost use Rattle.message.specs.Read.{isPtp, isSubTlvLength};
 
 // The header's fields.
 pub struct Header {
@@ -27,6 +28,16 @@ pub struct SubTlv {
 pub struct Fields {
     pub header: Header,
     pub sub_tlv: SubTlv,
+}
+
+// Types 2 to 4, whose Value begins with the sub-TLV.
+pub fn is_ptp(message_type: u16) -> bool
+    ensures { λ r. ⌜ r ≡ isPtp «message_type» ⌝ }
+{
+    if message_type < types::PTP_ETHERNET {
+        return false;
+    }
+    message_type <= types::PTP_IPV6
 }
 
 // Whether a sub-TLV may state this length.

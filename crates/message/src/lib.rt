@@ -8,5 +8,6 @@ pub mod types;
 pub use fields::Fields;
 pub use fields::Header;
 pub use fields::SubTlv;
+pub use fields::is_ptp;
 pub use fields::is_sub_tlv_length;
 pub use layout::G_ACH_HEADER;

@@ -6,7 +6,7 @@ ghost use mathlib.Core.Path.{_≡_};
 ghost use lib.ListN.{length};
 ghost use Rattle.io.specs.Digits.{Fewest};
 ghost use Rattle.node.specs.Answers.{wordAnswer};
-ghost use Rattle.print.specs.Refusal.{refusalIn};
+ghost use Rattle.refusal.specs.Answer.{refusalIn};
 
 // Prints a word, and answers how many octets it has.
 pub fn text(word: &[u8]) -> usize

@@ -1,10 +1,10 @@
--- Laws of answers: an operation that gives a value gives one, and was refused by no test on the way.
+-- Laws of answers: an operation that gives a value gives one, and was refused by no test on the way; and what the number of a refusal says.
 -- Assumes nothing.
 use Prim.Native.Nat.{ℕ}
-use mathlib.Core.Path.{_≡_, refl}
-use mathlib.Core.Bool.{Bool, true, false}
+use mathlib.Core.Path.{_≡_, refl, ap}
+use mathlib.Core.Bool.{Bool, true, false, cond}
 use native.Mathlib.Omega.{arith}
-use Rattle.refusal.specs.Answer.{Answer, value, refused, refuse}
+use Rattle.refusal.specs.Answer.{Answer, value, refused, refuse, andThen, refusalIn}
 
 module _ {A : Type 0} where
   pub not-both : {n : ℕ} {a : A} → refused n ≡ value a → ⊥
@@ -16,3 +16,23 @@ module _ {A : Type 0} where
   pub passes : (n : ℕ) (t : Bool) (next : Answer A) (a : A) → refuse n t next ≡ value a → (t ≡ false) × (next ≡ value a)
   passes n true next a e = absurd (not-both e)
   passes n false next a e = (refl, e)
+
+  -- a number that is not 0 is that of the refusal
+  pub refused-by : (a : Answer A) (n : ℕ) → refusalIn a ≡ n → (n ≡ 0 → ⊥) → a ≡ refused n
+  refused-by (value x) n e h = absurd (h (omega arith))
+  refused-by (refused m) n e h = ap refused e
+
+  -- the number that one test refuses with
+  pub refusal-of : (n : ℕ) (t : Bool) (a : A) → refusalIn (refuse n t (value a)) ≡ cond t n 0
+  refusal-of n true a = refl
+  refusal-of n false a = refl
+
+-- where an answer made of an earlier one is no refusal, the earlier one is none
+pub then-passed : {A B : Type 0} (a : Answer A) (next : A → Answer B) → refusalIn (andThen a next) ≡ 0 → refusalIn a ≡ 0
+then-passed (value x) next e = refl
+then-passed (refused n) next e = e
+
+-- and where only the earlier one can refuse, the number is its own
+pub refusal-then : {A B : Type 0} (a : Answer A) (made : A → B) → refusalIn (andThen a (λ x. value (made x))) ≡ refusalIn a
+refusal-then (value x) made = refl
+refusal-then (refused n) made = refl

@@ -15,3 +15,8 @@ refuse n false next = next
 abbrev pub andThen : {A B : Type 0} → Answer A → (A → Answer B) → Answer B
 andThen (value a) next = next a
 andThen (refused n) next = refused n
+
+-- the number of the refusal, and 0 where there is a value
+abbrev pub refusalIn : {A : Type 0} → Answer A → ℕ
+refusalIn (value a) = 0
+refusalIn (refused n) = n

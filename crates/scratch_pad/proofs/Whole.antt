@@ -1,7 +1,7 @@
 -- Whole numbers for omega: a number is what it is above zero less what it is below, and both parts are naturals.
 -- Assumes nothing.
-use Prim.Native.Nat.{ℕ, suc, _+_, _-_, _<_, _≤_, _^_}
-use mathlib.Core.Path.{_≡_, refl, ap}
+use Prim.Native.Nat.{ℕ, suc, _+_, _-_, _%_, _<_, _≤_, _^_}
+use mathlib.Core.Path.{_≡_, refl, ap, _∙_}
 use mathlib.Core.Bool.{Bool, true, false, cond}
 use native.Mathlib.Omega.{arith}
 use borrow.Author.Tests.{ltb-true, ltb-false, lt-ltb, le-ltb}
@@ -68,6 +68,24 @@ from-low b h = rw (le-ltb (b + 2 ^ 63) (2 ^ 63) (omega arith), lt-ltb b (2 ^ 63)
 
 pub from-high : (b : ℕ) → 2 ^ 63 ≤ b → b < 2 ^ 64 → toZ w64 (b - 2 ^ 63) ≡ fromOffset b
 from-high b h f = rw (lt-ltb (b - 2 ^ 63) (2 ^ 63) (omega arith), le-ltb b (2 ^ 63) h)
+
+-- the sum of a number's bits and u, modulo 2^64, is the bits of the sum where that is in the range
+pub wrapped : (z : ℤ) (u : ℕ) → SFits w64 z → offset z + u < 2 ^ 64 → toZ w64 ((ofZ w64 z + u) % 2 ^ 64) ≡ fromOffset (offset z + u)
+wrapped z u f l = by-half (ltb (offset z + u) (2 ^ 63)) refl
+  where
+    bits : (z : ℤ) → SFits w64 z → (offset z + 2 ^ 63) % 2 ^ 64 ≡ ofZ w64 z
+    bits (pos n) f = omega (arith, f .sfits)
+    bits (negsuc n) f = omega (arith, f .sfits)
+
+    by-half : (b : Bool) → ltb (offset z + u) (2 ^ 63) ≡ b → toZ w64 ((ofZ w64 z + u) % 2 ^ 64) ≡ fromOffset (offset z + u)
+    by-half true e =
+        let low = ltb-true (offset z + u) (2 ^ 63) e in
+        let same : (ofZ w64 z + u) % 2 ^ 64 ≡ offset z + u + 2 ^ 63 = omega (arith, bits z f) in
+        ap (toZ w64) same ∙ from-low (offset z + u) low
+    by-half false e =
+        let high = ltb-false (offset z + u) (2 ^ 63) e in
+        let same : (ofZ w64 z + u) % 2 ^ 64 ≡ offset z + u - 2 ^ 63 = omega (arith, bits z f) in
+        ap (toZ w64) same ∙ from-high (offset z + u) high l
 
 -- what is known of two numbers with their offsets a and b, and of the sum of the numbers
 pub record Parts (z y : ℤ) (a b : ℕ) : Type 0 where

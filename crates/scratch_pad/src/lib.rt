@@ -46,7 +46,8 @@ pub fn add_residence(pad: i64, units: u64) -> i64
     if LARGEST_OFFSET - b < units {
         return LARGEST;
     }
-    from_offset(b + units)
+    // In the range, the sum of the bits modulo 2^64 is the sum.
+    octets::signed(std::num::wrapping_add_u64(octets::unsigned(pad), units))
 }
 
 // Two pads: LARGEST where either is that, or their sum is that or more; refusal 11 where the sum

@@ -39,8 +39,12 @@ pub fn nanoseconds_between(entry: Stamp, exit: Stamp) -> Elapsed
     }
     let seconds = seconds_between(entry.seconds, exit.seconds) as u64;
     let later = seconds * 1_000_000_000 + (exit.nanoseconds as u64);
-    let elapsed = (later + 4_294_967_296_000_000_000 - (entry.nanoseconds as u64))
-        % 4_294_967_296_000_000_000;
+    let earlier = entry.nanoseconds as u64;
+    // The exit lies before the entry, in the same second: all but a whole cycle has passed.
+    if later < earlier {
+        return Elapsed::TooLong;
+    }
+    let elapsed = later - earlier;
     if 3_999_999_999 < elapsed {
         return Elapsed::TooLong;
     }

@@ -3,6 +3,7 @@
 use message::Fields;
 use message::Header;
 use message::SubTlv;
+use message::is_ptp;
 use message::is_sub_tlv_length;
 use message::layout;
 use message::types;
@@ -11,18 +12,8 @@ ghost use mathlib.Core.Path.{_≡_};
 ghost use Prim.Native.Nat.{_+_, _≤_};
 ghost use mathlib.Core.List.{_++_};
 ghost use lib.ListN.{length, drop};
-ghost use Rattle.message.specs.Write.{headerOctets, subTlvHeader, flagOctets, subTlvOctets, plainOctets, ptpOctets, isPtp, fitOf, sizeOf, writeOf};
+ghost use Rattle.message.specs.Write.{headerOctets, subTlvHeader, flagOctets, subTlvOctets, plainOctets, ptpOctets, fitOf, sizeOf, writeOf};
 ghost use Rattle.refusal.specs.Written.{writtenAnswer, written};
-
-// Types 2 to 4, whose Value begins with the sub-TLV.
-fn is_ptp(message_type: u16) -> bool
-    ensures { λ r. ⌜ r ≡ isPtp «message_type» ⌝ }
-{
-    if message_type < types::PTP_ETHERNET {
-        return false;
-    }
-    message_type <= types::PTP_IPV6
-}
 
 // The size of a message whose carried packet starts at `start`: refusals 2 and 12.
 fn fit(start: usize, carried: usize, room: usize) -> Written

@@ -9,7 +9,8 @@ use lib.ListN.{length, drop}
 use Rattle.refusal.specs.Answer.{value, refused}
 use Rattle.message.specs.declared.fields.Fields.{Fields}
 use Rattle.refusal.specs.declared.Written.the-variants.{Size}
-use Rattle.message.specs.Write.{isPtp, messageOctets, answerOf, writeOf}
+use Rattle.message.specs.Read.{isPtp}
+use Rattle.message.specs.Write.{messageOctets, answerOf, writeOf}
 use Rattle.refusal.specs.Written.{writtenAnswer, written}
 use Rattle.message.proofs.Accepted.{Accepted, accepted, ptp-size, plain-size}
 use borrow.Author.Needs.{needs}

@@ -2,8 +2,8 @@
 -- Assumes nothing.
 use native.Mathlib.Omega.{arith}
 use borrow.Author.Tests.{le-leb, lt-leb}
-use Rattle.writer.proofs.is_ptp.Statement.{statement}
-use Rattle.writer.proofs.is_ptp.Tie as tie
+use Rattle.message.proofs.fields.is_ptp.Statement.{statement}
+use Rattle.message.proofs.fields.is_ptp.Tie as tie
 
 returns : tie.Need-returns
 returns c = simp (lt-leb 2 (c .before .args .message-type) (omega arith))
