@@ -1,3 +1,5 @@
 pub mod Counts
+pub mod Parts
+pub mod PartExamples
 pub mod Places
 pub mod Rest

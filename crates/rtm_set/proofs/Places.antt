@@ -1,4 +1,4 @@
--- The entry at a place: the count tells whether there is one, and it is the front or an entry of the rest.
+-- The entry at a place: the count tells whether there is one, and behind the front it is an entry of the rest.
 -- Assumes nothing.
 use Prim.Native.Nat.{ℕ, zero, suc, _-_, _<_, _≤_}
 use mathlib.Core.Path.{_≡_, refl, sym, ap, _∙_}
@@ -6,7 +6,7 @@ use mathlib.Core.Bool.{Bool, true, false}
 use mathlib.Core.List.{List, []}
 use native.Mathlib.Omega.{arith}
 use borrow.Author.Tests.{le-leb, lt-leb, ltb-false}
-use lib.Dec.{leb·zero, leb·suc-zero, leb·suc-suc, leb, ltb}
+use lib.Dec.{leb·zero, leb·suc-suc, leb, ltb}
 use lib.ListN.{length, getD, take, drop}
 use Rattle.refusal.specs.Answer.{Answer, value, refused, refuse, andThen}
 use Rattle.refusal.proofs.Answers.{not-both}
@@ -34,7 +34,7 @@ module _ (k n : ℕ) where
 
 -- of a list that has an entry at the place
 module _ (s : List ℕ) (k : ℕ) (has : value (partBy (entryOf s k)) ≡ entryOf s k) where
-  not-refused : (n : ℕ) → entryOf s k ≡ refused n → ⊥
+  pub not-refused : (n : ℕ) → entryOf s k ≡ refused n → ⊥
   not-refused n e = not-both (sym e ∙ sym has)
 
   pub has-short : length s ≤ 1024
@@ -55,13 +55,6 @@ module _ (s : List ℕ) (k : ℕ) (has : value (partBy (entryOf s k)) ≡ entryO
       go false e = absurd (not-refused 20 (ap (at k) (entries-bad s has-short some e)))
 
   module _ (n : ℕ) (f : Front s n) where
-    pub entry-here : k ≡ 0 → partBy (entryOf s k) ≡ take n s
-    entry-here z = go (entriesOf (drop n s)) (entries-rest s n f has-short)
-      where
-        go : (a : Answer (List (List ℕ))) → entriesOf s ≡ before (take n s) a → partBy (entryOf s k) ≡ take n s
-        go (value es) e = ap (λ (b : Answer (List (List ℕ))). partBy (at k b)) e ∙ rw (z, leb·suc-zero (length es))
-        go (refused m) e = absurd (not-refused m (ap (at k) e))
-
     pub entry-later : (k ≡ 0 → ⊥) → entryOf s k ≡ entryOf (drop n s) (k - 1)
     entry-later z = ap (at k) (entries-rest s n f has-short) ∙ go k z (entriesOf (drop n s))
       where

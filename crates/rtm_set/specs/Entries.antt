@@ -1,5 +1,6 @@
 -- The address list of the RTM_SET TLV (document 01, The address list; refusals 19 to 21).
-use Prim.Native.Nat.{ℕ, zero, suc}
+use Prim.Native.Nat.{ℕ, zero, suc, _+_}
+use mathlib.Core.Path.{_≡_}
 use mathlib.Core.Bool.{Bool, cond, not, _&&_}
 use mathlib.Core.List.{List, [], _∷_}
 use lib.Dec.{ltb, leb, eqb}
@@ -44,3 +45,32 @@ entryOf s k = andThen (entriesOf s) (λ es. refuse 21 (leb (length es) k) (value
 abbrev pub partBy : Answer (List ℕ) → List ℕ
 partBy (value e) = e
 partBy (refused n) = []
+
+-- a part of a list: where it begins, and its length
+pub record Part : Type 0 where
+  pub offset : ℕ
+  pub length : ℕ
+
+-- the octets that entries have together
+abbrev pub octetsIn : List (List ℕ) → ℕ
+octetsIn [] = 0
+octetsIn (e ∷ es) = length e + octetsIn es
+
+-- where the entry at a place begins among entries that follow each other, and its length
+abbrev pub partIn : List (List ℕ) → ℕ → Part
+partIn es k = record { offset = octetsIn (take k es); length = length (getD es k []) }
+
+-- the entry at a place as the part of the list that holds it: where it begins, and its length
+abbrev pub partOf : List ℕ → ℕ → Answer Part
+partOf s k = andThen (entriesOf s) (λ es. refuse 21 (leb (length es) k) (value (partIn es k)))
+
+-- a part of a list as the part of a longer one, which has n octets before that list
+abbrev pub behind : ℕ → Answer Part → Answer Part
+behind n a = andThen a (λ p. value (record { offset = n + p .offset; length = p .length }))
+
+-- The octets that the part tells of are those of the entry at the place.
+abbrev pub PartHolds : Type 0
+PartHolds =
+    (s : List ℕ) (k : ℕ) (p : Part)
+    → partOf s k ≡ value p
+    → take (p .length) (drop (p .offset) s) ≡ partBy (entryOf s k)

@@ -11,3 +11,9 @@ pub enum Lookup {
     Present,
     Refused(u8),
 }
+
+// Where the entry at a place begins and how long it is, or the number of the refusal.
+pub enum Located {
+    At(usize, usize),
+    Refused(u8),
+}

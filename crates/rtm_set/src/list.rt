@@ -1,14 +1,15 @@
 // Counting the entries of a list, and finding one.
 use crate::answers::Count;
+use crate::answers::Located;
 use crate::answers::Lookup;
 use crate::layout;
 ghost use mathlib.Core.Path.{_≡_};
 ghost use mathlib.Core.Bool.{cond};
-ghost use Prim.Native.Nat.{_≤_};
+ghost use Prim.Native.Nat.{_+_, _≤_};
 ghost use lib.ListN.{length};
 ghost use Rattle.refusal.specs.Answer.{value};
-ghost use Rattle.rtm_set.specs.Entries.{entrySize, frontSize, isEntry, countOf, entryOf, partBy};
-ghost use Rattle.rtm_set.specs.Answers.{countAnswer, lookupAnswer};
+ghost use Rattle.rtm_set.specs.Entries.{entrySize, frontSize, isEntry, countOf, entryOf, partBy, partOf, behind};
+ghost use Rattle.rtm_set.specs.Answers.{countAnswer, lookupAnswer, locatedAnswer};
 
 // The whole length of an entry of a type; 0 for an unknown type.
 fn entry_size(entry_type: u8) -> usize
@@ -88,16 +89,28 @@ pub fn lookup(list: &[u8], place: usize) -> Lookup
     }
 }
 
-// The entry at a place that has one: the front, or an entry of the rest.
-fn entry_rest(list: &[u8], place: usize) -> &[u8]
+// The entry at a place that has one, behind as many octets as offset says: the front, or an entry of
+// the rest, behind the front as well.
+fn locate_rest(list: &[u8], place: usize, offset: usize) -> Located
+    requires { ⌜ offset + length (now list) ≤ 1024 ⌝ }
     requires { ⌜ value (partBy (entryOf (now list) place)) ≡ entryOf (now list) place ⌝ }
-    ensures { λ r. ⌜ now r ≡ partBy (entryOf (now (list .entry)) place) ⌝ }
+    ensures { λ r. ⌜ locatedAnswer r ≡ behind offset (partOf (now (list .entry)) place) ⌝ }
 {
     let size = front(list);
     if place == 0 {
-        return &list[..size];
+        return Located::At(offset, size);
     }
-    entry_rest(&list[size..], place - 1)
+    locate_rest(&list[size..], place - 1, offset + size)
+}
+
+// Where the entry at a place begins in the list, and its length: refusals 19 to 21 as for `lookup`.
+pub fn locate(list: &[u8], place: usize) -> Located
+    ensures { λ r. ⌜ locatedAnswer r ≡ partOf (now (list .entry)) place ⌝ }
+{
+    match lookup(list, place) {
+        Lookup::Present => locate_rest(list, place, 0),
+        Lookup::Refused(n) => Located::Refused(n),
+    }
 }
 
 // The entry at a place as a part of the list, and an empty part on refusal. Where an empty part
@@ -105,8 +118,8 @@ fn entry_rest(list: &[u8], place: usize) -> &[u8]
 pub fn entry(list: &[u8], place: usize) -> &[u8]
     ensures { λ r. ⌜ now r ≡ partBy (entryOf (now (list .entry)) place) ⌝ }
 {
-    match lookup(list, place) {
-        Lookup::Present => entry_rest(list, place),
-        Lookup::Refused(_) => &list[..0],
+    match locate(list, place) {
+        Located::At(offset, size) => &list[offset..offset + size],
+        Located::Refused(_) => &list[..0],
     }
 }
