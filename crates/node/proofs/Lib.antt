@@ -1,1 +1,4 @@
 pub mod Replies
+pub mod Handover
+pub mod Runs
+pub mod RunsExample

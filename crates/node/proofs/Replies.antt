@@ -1,49 +1,79 @@
--- Two-step calls over plain values: what `callBy` comes to, from what the table answered.
+-- Calls over plain values: what they come to, from what was read and from what the table answered.
 -- Assumes nothing.
-use Prim.Native.Nat.{ℕ}
+use Prim.Native.Nat.{ℕ, _<_, _≤_}
 use mathlib.Core.Path.{_≡_, refl, ap, _∙_}
 use mathlib.Core.Bool.{Bool, true, false}
 use mathlib.Core.List.{List}
+use native.Mathlib.Omega.{arith}
+use borrow.Author.Tests.{le-leb, lt-leb, ne-eqb}
+use lib.Dec.{eqb}
 use Rattle.refusal.specs.Answer.{value, refused}
 use Rattle.residence.specs.declared.Residence.{Residence}
 use Rattle.residence.specs.Residence.{acceptedOf}
+use Rattle.message.specs.declared.fields.SubTlv.{SubTlv}
 use Rattle.records.specs.declared.RecordKind.{RecordKind}
 use Rattle.records.specs.declared.RecordKind.the-variants.{Sync, Delay}
 use Rattle.records.specs.declared.Identity.{Identity}
-use Rattle.records.specs.Slots.{Slots, Outcome}
-use Rattle.table.specs.Table.{addOf, collectOf}
-use Rattle.rules.specs.Rules.{sync, followUp, firstOf, secondOf, keepIn, gather, asItCame, callBy}
-use Rattle.node.specs.Calls.{twoStepCall}
+use Rattle.records.specs.Node.{add, collect}
+use Rattle.words.specs.Words.{slotsOf, numberOf}
+use Rattle.words.specs.Answers.{Left, requestOn}
+use Rattle.rules.specs.Rules.{Call, firstOf, secondOf, passed, ptpKind, oneStepReply, update, keepIn, gather, asItCame}
+use Rattle.node.specs.Calls.{twoStepCall, callOnBy}
 
--- a Delay_Req is handled as a Sync with S set is, and a Delay_Resp as a Follow_Up
-module _ (t : Slots) (n : ℕ) (q : Identity) (m o : List ℕ) (x : Residence) where
-  pub first-alike : (k : RecordKind) → callBy t n (twoStepCall m o x) (sync q true) ≡ callBy t n (twoStepCall m o x) (firstOf k q)
-  first-alike Sync = refl
-  first-alike Delay = refl
+-- One-step: a PTPType up to 3 is updated, and one above is passed
+module _ (c : Call) (t : SubTlv) where
+  pub updates : t .«ptp_type» ≤ 3 → oneStepReply c (ptpKind t) ≡ update c (acceptedOf (c .residence))
+  updates h = by-zero (eqb (t .«ptp_type») 0) refl
+    where
+      by-one : (b : Bool) → eqb (t .«ptp_type») 0 ≡ false → eqb (t .«ptp_type») 1 ≡ b → oneStepReply c (ptpKind t) ≡ update c (acceptedOf (c .residence))
+      by-one true e f = rw (e, f)
+      by-one false e f = rw (e, f, le-leb (t .«ptp_type») 3 h)
 
-  pub second-alike : (k : RecordKind) → callBy t n (twoStepCall m o x) (followUp q) ≡ callBy t n (twoStepCall m o x) (secondOf k q)
-  second-alike Sync = refl
-  second-alike Delay = refl
+      by-zero : (b : Bool) → eqb (t .«ptp_type») 0 ≡ b → oneStepReply c (ptpKind t) ≡ update c (acceptedOf (c .residence))
+      by-zero true e = rw e
+      by-zero false e = by-one (eqb (t .«ptp_type») 1) e refl
 
--- a residence that the table was asked to keep
+  pub passing : 3 < t .«ptp_type» → oneStepReply c (ptpKind t) ≡ asItCame c (value passed)
+  passing h = by-eight (eqb (t .«ptp_type») 8) refl
+    where
+      zero-not : eqb (t .«ptp_type») 0 ≡ false
+      zero-not = ne-eqb (t .«ptp_type») 0 (λ e. omega arith)
+
+      one-not : eqb (t .«ptp_type») 1 ≡ false
+      one-not = ne-eqb (t .«ptp_type») 1 (λ e. omega arith)
+
+      by-nine : (b : Bool) → eqb (t .«ptp_type») 8 ≡ false → eqb (t .«ptp_type») 9 ≡ b → oneStepReply c (ptpKind t) ≡ asItCame c (value passed)
+      by-nine true e f = rw (zero-not, one-not, lt-leb (t .«ptp_type») 3 h, e, f)
+      by-nine false e f = rw (zero-not, one-not, lt-leb (t .«ptp_type») 3 h, e, f)
+
+      by-eight : (b : Bool) → eqb (t .«ptp_type») 8 ≡ b → oneStepReply c (ptpKind t) ≡ asItCame c (value passed)
+      by-eight true e = rw (zero-not, one-not, lt-leb (t .«ptp_type») 3 h, e)
+      by-eight false e = by-nine (eqb (t .«ptp_type») 9) e refl
+
+-- Two-step: a Sync with S set or a Delay_Req, whose residence the table was asked to keep
 pub kept :
-    (t : Slots) (n : ℕ) (q : Identity) (u : ℕ) (r : Outcome) → r ≡ addOf q u t n → (m o : List ℕ) (x : Residence) → acceptedOf x ≡ value u
-    → record { reply = keepIn (twoStepCall m o x) (r .answer); slots = r .slots; number = r .number } ≡ callBy t n (twoStepCall m o x) (sync q true)
-kept t n q u r e m o x f =
-    let c = twoStepCall m o x in
-    ap (λ (y : Outcome). record { reply = keepIn c (y .answer); slots = y .slots; number = y .number }) e ∙ rw f
+    (k : RecordKind) (w : List ℕ) (q : Identity) (u : ℕ) (r : Left) → r ≡ requestOn (add q u) w → (m o : List ℕ) (x : Residence) → acceptedOf x ≡ value u
+    → record { done = record { reply = keepIn (twoStepCall m o x) (r .outcome .answer); slots = r .outcome .slots; number = r .outcome .number }; words = r .words }
+    ≡ callOnBy w (twoStepCall m o x) (firstOf k q)
+kept Sync w q u r e m o x f =
+    ap (λ (y : Left). record { done = record { reply = keepIn (twoStepCall m o x) (y .outcome .answer); slots = y .outcome .slots; number = y .outcome .number }; words = y .words }) e ∙ rw f
+kept Delay w q u r e m o x f =
+    ap (λ (y : Left). record { done = record { reply = keepIn (twoStepCall m o x) (y .outcome .answer); slots = y .outcome .slots; number = y .outcome .number }; words = y .words }) e ∙ rw f
 
--- a Sync whose residence is refused
-pub no-residence :
-    (t : Slots) (n : ℕ) (q : Identity) (b : Bool) (m o : List ℕ) (x : Residence) (k : ℕ) → acceptedOf x ≡ refused k
-    → record { reply = asItCame (twoStepCall m o x) (refused k); slots = t; number = n } ≡ callBy t n (twoStepCall m o x) (sync q b)
-no-residence t n q true m o x k e = rw e
-no-residence t n q false m o x k e = rw e
+-- and one whose residence is refused
+pub not-kept :
+    (k : RecordKind) (w : List ℕ) (q : Identity) (m o : List ℕ) (x : Residence) (n : ℕ) → acceptedOf x ≡ refused n
+    → record { done = record { reply = asItCame (twoStepCall m o x) (refused n); slots = slotsOf w; number = numberOf w }; words = w }
+    ≡ callOnBy w (twoStepCall m o x) (firstOf k q)
+not-kept Sync w q m o x n e = rw e
+not-kept Delay w q m o x n e = rw e
 
 -- a Follow_Up or a Delay_Resp, by what the table answered
 pub gathered :
-    (k : RecordKind) (t : Slots) (n : ℕ) (q : Identity) (r : Outcome) → r ≡ collectOf q t n → (m o : List ℕ) (x : Residence)
-    → record { reply = gather (twoStepCall m o x) (r .answer); slots = r .slots; number = r .number } ≡ callBy t n (twoStepCall m o x) (secondOf k q)
-gathered k t n q r e m o x =
-    let c = twoStepCall m o x in
-    ap (λ (y : Outcome). record { reply = gather c (y .answer); slots = y .slots; number = y .number }) e ∙ second-alike t n q m o x k
+    (k : RecordKind) (w : List ℕ) (q : Identity) (r : Left) → r ≡ requestOn (collect q) w → (m o : List ℕ) (x : Residence)
+    → record { done = record { reply = gather (twoStepCall m o x) (r .outcome .answer); slots = r .outcome .slots; number = r .outcome .number }; words = r .words }
+    ≡ callOnBy w (twoStepCall m o x) (secondOf k q)
+gathered Sync w q r e m o x =
+    ap (λ (y : Left). record { done = record { reply = gather (twoStepCall m o x) (y .outcome .answer); slots = y .outcome .slots; number = y .outcome .number }; words = y .words }) e
+gathered Delay w q r e m o x =
+    ap (λ (y : Left). record { done = record { reply = gather (twoStepCall m o x) (y .outcome .answer); slots = y .outcome .slots; number = y .outcome .number }; words = y .words }) e

@@ -3,15 +3,13 @@ use Prim.Native.Nat.{ℕ}
 use mathlib.Core.List.{List}
 use Rattle.refusal.specs.Answer as answer
 use Rattle.records.specs.Slots.{Slots}
-use Rattle.table.specs.Table.{slotsOf, numberOf}
+use Rattle.words.specs.Words.{slotsOf, numberOf}
 use Rattle.rules.specs.Rules as rules
 use Rattle.node.specs.declared.answer.Answer.{Answer}
 use Rattle.node.specs.declared.answer.Answer.the-variants.{Updated, Passed, Created, Waiting, Added, Refused}
 use Rattle.node.specs.declared.answer.Done.{Done}
 use Rattle.node.specs.declared.answer.Accepted.{Accepted}
 use Rattle.node.specs.declared.answer.Accepted.the-variants as accepted
-use Rattle.node.specs.declared.kind.Handling.{Handling}
-use Rattle.node.specs.declared.kind.Handling.the-variants as handling
 
 abbrev pub wordAnswer : Answer → answer.Answer rules.Word
 wordAnswer Updated = answer.value rules.updated
@@ -25,24 +23,23 @@ wordAnswer (Refused n) = answer.refused n
 abbrev pub replied : Answer → List ℕ → List ℕ → rules.Reply
 replied r m o = record { answer = wordAnswer r; message = m; output = o }
 
--- and with the table handed back
-abbrev pub done : Done → List ℕ → List ℕ → rules.Done
-done r m o = record { reply = replied (r .answer) m o; slots = slotsOf (r .table); number = numberOf (r .table) }
+-- and with the table's words afterwards: every word, and what they mean
+pub record DoneOn : Type 0 where
+  pub done : rules.Done
+  pub words : List ℕ
+
+abbrev pub doneOn : Answer → List ℕ → List ℕ → List ℕ → DoneOn
+doneOn r m o w = record { done = record { reply = replied r m o; slots = slotsOf w; number = numberOf w }; words = w }
+
+-- the same with the table handed back
+abbrev pub done : Done → List ℕ → List ℕ → DoneOn
+done r m o = doneOn (r .answer) m o (r .table .words)
 
 -- a one-step call is lent no output and handed no table: whatever they are, they stay
 abbrev pub doneAlone : Answer → List ℕ → List ℕ → Slots → ℕ → rules.Done
 doneAlone r m o t n = record { reply = replied r m o; slots = t; number = n }
 
--- the private answers
+-- the private answer of a residence
 abbrev pub unitsAnswer : Accepted → answer.Answer ℕ
 unitsAnswer (accepted.Units u) = answer.value u
 unitsAnswer (accepted.Refused n) = answer.refused n
-
-abbrev pub kindAnswer : Handling → rules.Kind
-kindAnswer (handling.Sync q s) = rules.sync q s
-kindAnswer (handling.FollowUp q) = rules.followUp q
-kindAnswer (handling.DelayReq q) = rules.delayReq q
-kindAnswer (handling.DelayResp q) = rules.delayResp q
-kindAnswer handling.Timed = rules.timed
-kindAnswer handling.Untimed = rules.untimed
-kindAnswer (handling.Unreadable n) = rules.unreadable n

@@ -2,18 +2,30 @@
 use crate::answer;
 use crate::answer::Accepted;
 use crate::answer::Answer;
-use crate::change;
-use crate::kind;
-use crate::kind::Handling;
+use message::is_ptp;
+use message::types;
 use residence::Residence;
 ghost use mathlib.Core.Path.{_≡_};
+ghost use mathlib.Core.Bool.{_&&_};
 ghost use Prim.Native.Nat.{ℕ};
 ghost use mathlib.Core.List.{List};
+ghost use lib.Dec.{ltb};
+ghost use Rattle.message.specs.Read.{header, isPtp, messageValue, subTlv};
 ghost use Rattle.records.specs.Slots.{Slots};
 ghost use Rattle.rules.specs.Rules.{update, callOf};
 ghost use Rattle.residence.specs.Residence.{acceptedOf};
 ghost use Rattle.node.specs.Answers.{replied, doneAlone};
 ghost use Rattle.node.specs.Calls.{oneStepCall};
+
+// Types 2 to 4 with a PTPType above 3.
+fn passes(message: &[u8]) -> bool
+    ensures { λ r. ⌜ r ≡ (isPtp (header (now (message .entry)) .«message_type») && ltb 3 (subTlv (messageValue (now (message .entry))) .«ptp_type»)) ⌝ }
+{
+    if !is_ptp(reader::message_type(message)) {
+        return false;
+    }
+    types::PDELAY_RESP < reader::ptp_type(reader::value(message))
+}
 
 // Adds the residence: refusals 9 and 10.
 fn update_pad(message: &mut [u8], residence: Residence) -> Answer
@@ -21,7 +33,7 @@ fn update_pad(message: &mut [u8], residence: Residence) -> Answer
 {
     match answer::accept(residence) {
         Accepted::Units(units) => {
-            change::add_to_pad(message, units);
+            handling::add_to_pad(message, units);
             Answer::Updated
         }
         Accepted::Refused(n) => Answer::Refused(n),
@@ -36,13 +48,12 @@ pub fn handle_one_step(message: &mut [u8], residence: Residence) -> Answer
         ((t : Slots) (n : ℕ) (o : List ℕ) → doneAlone r (now (message .exit)) o t n ≡ callOf t n (oneStepCall (now (message .entry)) o residence))
         ⌝ }
 {
-    match kind::classify(message) {
-        Handling::Sync(_, _) => update_pad(message, residence),
-        Handling::DelayReq(_) => update_pad(message, residence),
-        Handling::Timed => update_pad(message, residence),
-        Handling::FollowUp(_) => Answer::Passed,
-        Handling::DelayResp(_) => Answer::Passed,
-        Handling::Untimed => Answer::Passed,
-        Handling::Unreadable(n) => Answer::Refused(n),
+    let n = reader::check(message);
+    if n != 0 {
+        return Answer::Refused(n);
     }
+    if passes(message) {
+        return Answer::Passed;
+    }
+    update_pad(message, residence)
 }

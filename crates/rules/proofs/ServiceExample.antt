@@ -1,25 +1,21 @@
 -- What stops a switchover and what does not, worked: a Sync waits, a Delay_Req of the same port and sequence comes and goes, and the table can
 -- be written again.
 -- Assumes nothing.
-use Prim.Native.Nat.{ℕ, zero, suc}
+use Prim.Native.Nat.{ℕ}
 use mathlib.Core.Path.{_≡_, refl}
-use mathlib.Core.Bool.{Bool, true, _&&_, and-eq-true-iff}
+use mathlib.Core.Bool.{true}
 use mathlib.Core.List.{List, [], _∷_}
-use native.Mathlib.Omega.{arith}
-use borrow.Author.Tests.{ltb-true}
-use lib.Dec.{ltb}
 use lib.IntN.{pos}
 use lib.ListN.{take, replicate}
-use Rattle.octets.specs.Octets.{Octets}
 use Rattle.refusal.specs.Answer.{value, refused}
 use Rattle.residence.specs.declared.Residence.the-variants.{InvalidStamp}
 use Rattle.records.specs.Slots.{same, holds, zeros}
-use Rattle.records.specs.Node.{Event, tick, call, switchover, final}
+use Rattle.records.specs.Node.{Event, tick, call, final}
 use Rattle.image.specs.Image.{sound, ofSync, differ, imageOf}
 use Rattle.rules.specs.Rules.{twoStep, Call, rules}
 use Rattle.rules.specs.Service.{new, InOctets}
 use Rattle.rules.proofs.Serves.{always-written}
-use Rattle.rules.proofs.Samples.{numbered, octetsOf, stayed, handedIn, each}
+use Rattle.rules.proofs.Samples.{numbered, octetsOf, stayed, handedIn, each, low-octets, Low}
 
 -- a message of this PTPType with S set
 abbrev ofType : ℕ → List ℕ
@@ -34,20 +30,6 @@ events =
     ∷ []
 
 -- the messages are octets
-abbrev low : List ℕ → Bool
-low [] = true
-low (x ∷ s) = ltb x 256 && low s
-
-low-octets : (s : List ℕ) → low s ≡ true → Octets s
-low-octets [] h i = omega arith
-low-octets (x ∷ s) h zero = ltb-true x 256 (and-eq-true-iff (ltb x 256) (low s) .0 h .0)
-low-octets (x ∷ s) h (suc i) = low-octets s (and-eq-true-iff (ltb x 256) (low s) .0 h .1) i
-
-abbrev Low : ℕ → Event Call → Type 0
-Low k tick = Unit {0}
-Low k (call c) = Octets (c .message)
-Low k switchover = Unit {0}
-
 in-octets : InOctets events
 in-octets k c = each Low events (low-octets (ofType 0) refl, (low-octets (ofType 1) refl, (tt, (low-octets (ofType 9) refl, tt)))) k (call c)
 

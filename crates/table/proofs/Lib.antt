@@ -1,3 +1,1 @@
 pub mod Reloads
-pub mod Search
-pub mod Sweep

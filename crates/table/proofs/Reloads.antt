@@ -1,23 +1,26 @@
--- Loads of one string over two tables: the same slots and number where it loads, and each table as it came where it is refused.
+-- A load of one string into words, by what the loader found: the words hold its slots and number, or stay as they came.
 -- Assumes nothing.
 use Prim.Native.Nat.{ℕ}
-use mathlib.Core.Path.{_≡_, sym, ap}
+use mathlib.Core.Path.{_≡_, sym, ap, _∙_}
+use mathlib.Core.List.{List}
 use Rattle.refusal.specs.Answer.{Answer, value, refused}
 use Rattle.refusal.proofs.Answers.{not-both}
 use Rattle.records.specs.Slots.{Slots, Outcome}
 use Rattle.image.specs.Image.{loadBy}
+use Rattle.words.specs.Words.{slotsOf, numberOf, loadedWords}
+use Rattle.words.specs.Answers.{Left, left, filledOn}
 
-module _ (t other left : Slots) (n m k : ℕ) where
-  pub loaded-alike :
-      (a : Answer Slots)
-      → record { answer = value 0; slots = left; number = k } ≡ loadBy other m a
-      → record { answer = value 0; slots = left; number = k } ≡ loadBy t n a
-  loaded-alike (value u) e = e
-  loaded-alike (refused r) e = absurd (not-both (sym (ap (λ (l : Outcome). l .answer) e)))
+abbrev loadLeft : List ℕ → Answer Slots → Left
+loadLeft w a = record { outcome = loadBy (slotsOf w) (numberOf w) a; words = loadedWords w a }
 
-  pub refused-alike :
-      (r : ℕ) (a : Answer Slots)
-      → record { answer = refused r; slots = left; number = k } ≡ loadBy other m a
-      → record { answer = refused r; slots = t; number = n } ≡ loadBy t n a
-  refused-alike r (value u) e = absurd (not-both (ap (λ (l : Outcome). l .answer) e))
-  refused-alike r (refused s) e = ap (λ (l : Outcome). record { answer = l .answer; slots = t; number = n }) e
+-- z, k: the table over which the loader worked
+module _ (z t : Slots) (k n : ℕ) (w v : List ℕ) where
+  pub loaded-words :
+      (a : Answer Slots) → record { answer = value 0; slots = t; number = n } ≡ loadBy z k a → left (value 0) v ≡ filledOn t n w
+      → left (value 0) v ≡ loadLeft w a
+  loaded-words (value u) e f = f ∙ (λ i. filledOn (e i .slots) (e i .number) w)
+  loaded-words (refused r) e f = absurd (not-both (sym (ap (λ (o : Outcome). o .answer) e)))
+
+  pub refused-words : (r : ℕ) (a : Answer Slots) → record { answer = refused r; slots = t; number = n } ≡ loadBy z k a → left (refused r) w ≡ loadLeft w a
+  refused-words r (value u) e = absurd (not-both (ap (λ (o : Outcome). o .answer) e))
+  refused-words r (refused s) e = ap (λ (o : Outcome). left (o .answer) w) e

@@ -1,44 +1,49 @@
-// The table of waiting records, 16 slots by value (document 01: "The table is handed in and handed
-// back by each operation"), with the number of its records (document 02, W-206). Every table value is
-// good input.
+// The table of waiting records by value, document 01's form ("The table is handed in and handed back
+// by each operation"): each method copies the words once, makes one call of the lent form (crate
+// `lent`) and hands them back. And the image of a table, lent or by value.
+mod images;
+
+pub use images::load_image;
+pub use images::write_image;
+pub use lent::Entry;
+pub use lent::Found;
+pub use lent::add;
+pub use lent::clear;
+pub use lent::collect;
+pub use lent::fill;
+pub use lent::find;
+pub use lent::number;
+pub use lent::slots;
+pub use lent::tick;
+pub use lent::waiting;
 use records::Identity;
 use records::Record;
-use records::number;
 pub use refusal::Written;
 pub use switchover::Loading;
 ghost use mathlib.Core.Path.{_≡_};
-ghost use Rattle.records.specs.Slots.{empty, holds, lowest, aged};
+ghost use lib.ListN.{replicate};
 ghost use Rattle.records.specs.Node.{tableAnswer};
-ghost use Rattle.records.specs.Node.{collect as collect·request};
-ghost use Rattle.records.specs.Number.{readNumber, tickOf};
+ghost use Rattle.records.specs.Node.{add as add·request, collect as collect·request};
+ghost use Rattle.records.specs.Number.{readNumber};
 ghost use Rattle.refusal.specs.Written.{written};
-ghost use Rattle.image.specs.Image.{writeOf, loadInto};
-ghost use Rattle.table.specs.Table.{slotsOf, numberOf, made, newOf, addOf, collectOf, foundAnswer, entered, taken, counted, reloaded};
+ghost use Rattle.image.specs.Image.{writeOf};
+ghost use Rattle.words.specs.Words.{slotsOf, numberOf};
+ghost use Rattle.words.specs.Answers.{newOn, requestOn, tickOn, filledOn};
+ghost use Rattle.lent.specs.Answers.{foundAnswer};
+ghost use Rattle.table.specs.Table.{made, entered, taken, counted, loadOn, reloaded};
 
-// In a new or a loaded table, and in what the operations make of one, `number` is how many slots hold
-// a record. In any other table it is any octet: over 16 it is read as 16, and no answer but that of
-// `waiting` depends on it.
+// The words are slots, a number and room for later fields (specs/Words.antt of `words`). In a new or
+// a loaded table, and in what the operations make of one, the number is how many slots hold a record.
+// In any other table it is any octet: over 16 it is read as 16, and no answer but that of `waiting`
+// depends on it.
 pub struct Table {
-    pub slots: [Record; 16],
-    pub number: u8,
-}
-
-// A record waits, or the number of the refusal.
-pub enum Entry {
-    Waiting,
-    Refused(u8),
+    pub words: [u64; 64],
 }
 
 // The table after a record was added, and the answer.
 pub struct Entered {
     pub table: Table,
     pub answer: Entry,
-}
-
-// A record's residence in pad units, or the number of the refusal.
-pub enum Found {
-    Residence(u64),
-    Refused(u8),
 }
 
 // The table after a record was collected, and the answer.
@@ -59,212 +64,104 @@ pub struct Reloaded {
     pub answer: Loading,
 }
 
-// The slot holds a record with this identity.
-fn is_of(slot: Record, identity: Identity) -> bool
-    ensures { λ r. ⌜ r ≡ holds identity slot ⌝ }
-{
-    if slot.wait == 0 {
-        return false;
-    }
-    identity.equals(slot.identity())
-}
-
-// A slot after a tick.
-fn age(slot: Record) -> Record
-    ensures { λ r. ⌜ r ≡ aged slot ⌝ }
-{
-    let wait = slot.wait;
-    if wait == 0 {
-        return slot;
-    }
-    if wait == 1 {
-        return Record::zeros();
-    }
-    let mut older = slot;
-    older.wait = wait - 1;
-    older
-}
-
 impl Table {
     // A table with no records: all zeros.
     pub fn new() -> Table
-        ensures { λ r. ⌜ made r ≡ newOf ⌝ }
+        ensures { λ r. ⌜ made r ≡ newOn ⌝ }
     {
-        let slot = Record::zeros();
-        Table {
-            slots: [slot; 16],
-            number: 0,
-        }
+        Table { words: [0; 64] }
+    }
+
+    // A table with these slots and this number, and nothing else.
+    pub fn of(slots: [Record; 16], number: u8) -> Table
+        ensures { λ r. ⌜ made r ≡ filledOn slots number (replicate 64 0) ⌝ }
+    {
+        let mut table = Table::new();
+        lent::fill(&mut table.words, slots, number);
+        table
+    }
+
+    // The slots as records.
+    pub fn slots(self) -> [Record; 16]
+        ensures { λ r. ⌜ r ≡ slotsOf (self .words) ⌝ }
+    {
+        lent::slots(&self.words)
+    }
+
+    // The number as it is kept.
+    pub fn number(self) -> u8
+        ensures { λ r. ⌜ r ≡ numberOf (self .words) ⌝ }
+    {
+        lent::number(&self.words)
     }
 
     // How many records wait, by the number that the table keeps: at most 16. No slot is looked at.
     pub fn waiting(self) -> u8
-        ensures { λ r. ⌜ r ≡ readNumber (numberOf self) ⌝ }
+        ensures { λ r. ⌜ r ≡ readNumber (numberOf (self .words)) ⌝ }
     {
-        let number = self.number;
-        number::read(number)
-    }
-
-    // The lowest slot that holds a record with this identity; 16 where none does.
-    fn place(self, identity: Identity) -> usize
-        ensures { λ r. ⌜ r ≡ lowest (holds identity) (slotsOf self) ⌝ }
-    {
-        let slots = self.slots;
-        let mut i: usize = 0;
-        while i < 16 {
-            let slot = slots[i];
-            if is_of(slot, identity) {
-                return i;
-            }
-            i += 1;
-        }
-        16
-    }
-
-    // The lowest empty slot; 16 where none is.
-    fn vacancy(self) -> usize
-        ensures { λ r. ⌜ r ≡ lowest empty (slotsOf self) ⌝ }
-    {
-        let slots = self.slots;
-        let mut i: usize = 0;
-        while i < 16 {
-            let slot = slots[i];
-            if slot.wait == 0 {
-                return i;
-            }
-            i += 1;
-        }
-        16
+        lent::waiting(&self.words)
     }
 
     // The residence of the record with this identity; refusal 15 where there is none.
     pub fn find(self, identity: Identity) -> Found
-        ensures { λ r. ⌜ foundAnswer r ≡ tableAnswer (collect·request identity) (slotsOf self) ⌝ }
+        ensures { λ r. ⌜ foundAnswer r ≡ tableAnswer (collect·request identity) (slotsOf (self .words)) ⌝ }
     {
-        let at = self.place(identity);
-        if 16 <= at {
-            return Found::Refused(refusal::NO_RECORD);
-        }
-        let slots = self.slots;
-        let slot = slots[at];
-        Found::Residence(slot.residence)
+        lent::find(&self.words, identity)
     }
 
     // Puts a record with a wait of 3 into the lowest empty slot; refusal 13 where one with its
     // identity waits already, 14 where no slot is empty.
-    pub fn add(self, identity: Identity, residence: u64) -> Entered
-        ensures { λ r. ⌜ entered r ≡ addOf identity residence (slotsOf self) (numberOf self) ⌝ }
+    pub fn add(mut self, identity: Identity, residence: u64) -> Entered
+        ensures { λ r. ⌜ entered r ≡ requestOn (add·request identity residence) (self .words) ⌝ }
     {
-        if self.place(identity) < 16 {
-            return Entered {
-                table: self,
-                answer: Entry::Refused(refusal::ALREADY_WAITING),
-            };
-        }
-        let kept = self.number;
-        let vacancy = self.vacancy();
-        if 16 <= vacancy {
-            return Entered {
-                table: self,
-                answer: Entry::Refused(refusal::NO_EMPTY_SLOT),
-            };
-        }
-        let mut slots = self.slots;
-        let kind = identity.kind;
-        slots[vacancy] = Record {
-            clock: identity.clock,
-            port: identity.port,
-            sequence: identity.sequence,
-            kind,
-            residence,
-            wait: 3,
-        };
-        let number = number::one_more(kept);
-        let table = Table { slots, number };
+        let answer = lent::add(&mut self.words, identity, residence);
         Entered {
-            table,
-            answer: Entry::Waiting,
+            table: self,
+            answer,
         }
     }
 
     // Takes the record with this identity out; refusal 15 where there is none.
-    pub fn collect(self, identity: Identity) -> Taken
-        ensures { λ r. ⌜ taken r ≡ collectOf identity (slotsOf self) (numberOf self) ⌝ }
+    pub fn collect(mut self, identity: Identity) -> Taken
+        ensures { λ r. ⌜ taken r ≡ requestOn (collect·request identity) (self .words) ⌝ }
     {
-        let at = self.place(identity);
-        if 16 <= at {
-            return Taken {
-                table: self,
-                answer: Found::Refused(refusal::NO_RECORD),
-            };
-        }
-        let mut slots = self.slots;
-        let slot = slots[at];
-        slots[at] = Record::zeros();
-        let kept = self.number;
-        let number = number::fewer(1, kept);
-        let table = Table { slots, number };
+        let answer = lent::collect(&mut self.words, identity);
         Taken {
-            table,
-            answer: Found::Residence(slot.residence),
+            table: self,
+            answer,
         }
     }
 
     // Lowers every wait above 0 by one, empties the slots whose wait reaches 0, and counts them.
-    pub fn tick(self) -> Ticked
-        ensures { λ r. ⌜ counted r ≡ tickOf (slotsOf self) (numberOf self) ⌝ }
+    pub fn tick(mut self) -> Ticked
+        ensures { λ r. ⌜ counted r ≡ tickOn (self .words) ⌝ }
     {
-        let kept = self.number;
-        let mut slots = self.slots;
-        let mut emptied: u8 = 0;
-        let mut i: usize = 0;
-        while i < 16 {
-            let slot = slots[i];
-            if slot.wait == 1 {
-                emptied += 1;
-            }
-            slots[i] = age(slot);
-            i += 1;
+        let emptied = lent::tick(&mut self.words);
+        Ticked {
+            table: self,
+            emptied,
         }
-        let number = number::fewer(emptied, kept);
-        let table = Table { slots, number };
-        Ticked { table, emptied }
     }
 
     // Writes the image of this table at the start of the output, which stays as it came beyond the
     // size and on refusal. Only records count. Refusal 22 where they could not be loaded, or where
     // one is of kind Delay, then 12.
     pub fn write(self, out: &mut [u8]) -> Written
-        ensures { λ r. ⌜ written r (now (out .exit)) ≡ writeOf (slotsOf self) (now (out .entry)) ⌝ }
+        ensures { λ r. ⌜ written r (now (out .exit)) ≡ writeOf (slotsOf (self .words)) (now (out .entry)) ⌝ }
     {
-        let slots = self.slots;
-        switchover::write(slots, out)
+        images::write_image(&self.words, out)
     }
 
     // The table that an image loads: its records, of kind Sync, from slot 0 on, in its order, and
-    // zeros; and their number. Refusal 22 for any other octets, with the table that came.
-    pub fn load(self, octets: &[u8]) -> Reloaded
-        ensures { λ r. ⌜ reloaded r ≡ loadInto (now (octets .entry)) (slotsOf self) (numberOf self) ⌝ }
+    // zeros; and their number. Reserved words stay. Refusal 22 for any other octets, with the table
+    // that came.
+    pub fn load(mut self, octets: &[u8]) -> Reloaded
+        ensures { λ r. ⌜ reloaded r ≡ loadOn (now (octets .entry)) (self .words) ⌝ }
     {
-        let loaded = switchover::load(octets);
-        let slots = loaded.slots;
-        let number = loaded.number;
-        let answer = loaded.answer;
-        match answer {
-            Loading::Replaced => {
-                let table = Table { slots, number };
-                Reloaded {
-                    table,
-                    answer: Loading::Replaced,
-                }
-            }
-            Loading::Refused(n) => {
-                let table = self;
-                Reloaded {
-                    table,
-                    answer: Loading::Refused(n),
-                }
-            }
+        let answer = images::load_image(&mut self.words, octets);
+        Reloaded {
+            table: self,
+            answer,
         }
     }
 }

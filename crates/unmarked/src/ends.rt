@@ -53,7 +53,7 @@ fn collected() {
 fn long_record() {
     print::text(b"record of 2^63-1 units");
     let slots = [waits::record(1, 0x7FFF_FFFF_FFFF_FFFF, 3); 16];
-    let table = Table { slots, number: 16 };
+    let table = Table::of(slots, 16);
     let a = follow_up(table, octets::signed(MINUS_FIVE));
     follow_up(a, 0);
     print::end_line();

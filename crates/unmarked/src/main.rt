@@ -4,6 +4,7 @@ mod clocks;
 mod delays;
 mod ends;
 mod headers;
+mod in_words;
 mod lengths;
 mod limits;
 mod messages;
@@ -21,4 +22,5 @@ fn main() {
     delays::run();
     ends::run();
     numbers::run();
+    in_words::run();
 }

@@ -8,7 +8,7 @@ use table::Table;
 
 // Prints the number that a table keeps and the one that it answers, and hands the table on.
 fn ask(table: Table) -> Table {
-    print::number(b", keeps ", table.number as u64);
+    print::number(b", keeps ", table.number() as u64);
     print::number(b" answers ", table.waiting() as u64);
     table
 }
@@ -30,7 +30,7 @@ fn two(wait: u8, number: u8) -> Table {
     let mut slots = [Record::zeros(); 16];
     slots[0] = waits::record(1, 5, wait);
     slots[1] = waits::record(2, 5, wait);
-    Table { slots, number }
+    Table::of(slots, number)
 }
 
 // What each operation makes of a number: a Sync put in, one refused, a Follow_Up added, one refused, a
@@ -50,10 +50,7 @@ fn any(number: u8) {
 // A full table that keeps 0, and its image: neither 14 nor the image goes by the number.
 fn full() {
     print::text(b"full table that keeps 0");
-    let table = Table {
-        slots: [waits::record(1, 5, 3); 16],
-        number: 0,
-    };
+    let table = Table::of([waits::record(1, 5, 3); 16], 0);
     ask(waits::sync(table, 2));
     ask(switchovers::switch(two(3, 0)));
     print::end_line();

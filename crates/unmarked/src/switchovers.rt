@@ -25,7 +25,7 @@ pub(crate) fn load(card: Table, octets: &[u8]) -> Table {
         Loading::Refused(n) => print::number(b", load refused ", n as u64),
     }
     ;
-    let slots = loaded.table.slots;
+    let slots = loaded.table.slots();
     print_slot(slots[0]);
     print_slot(slots[1]);
     loaded.table
@@ -34,10 +34,7 @@ pub(crate) fn load(card: Table, octets: &[u8]) -> Table {
 // Writes the table and has another card load it, which holds rubbish; where the write is refused
 // the table stays.
 pub(crate) fn switch(table: Table) -> Table {
-    let card = Table {
-        slots: [waits::record(9, 9, 255); 16],
-        number: 255,
-    };
+    let card = Table::of([waits::record(9, 9, 255); 16], 255);
     let mut image = [0xAAu8; LARGEST];
     match table.write(&mut image) {
         Written::Size(n) => {
@@ -75,10 +72,7 @@ fn aged() {
 // Two records of one identity cannot be written, and a node goes on with them.
 fn doubled() {
     print::text(b"doubled records");
-    let a = switch(Table {
-        slots: [waits::record(1, 5, 3); 16],
-        number: 16,
-    });
+    let a = switch(Table::of([waits::record(1, 5, 3); 16], 16));
     waits::follow_up(a, types::PTP_IPV4, 1);
     print::end_line();
 }

@@ -94,7 +94,7 @@ fn full() {
     print::text(b"full table");
     let mut slots = [record(1, 7, 3); 16];
     slots[0] = record(1, 5, 3);
-    let a = sync(Table { slots, number: 16 }, 2);
+    let a = sync(Table::of(slots, 16), 2);
     let b = sync(a, 1);
     let c = follow_up(b, types::PTP_IPV4, 1);
     let d = follow_up(c, types::PTP_IPV4, 1);
@@ -109,14 +109,7 @@ fn none() {
     let b = sync(a, 0);
     follow_up(b, types::PTP_IPV4, 0);
     print::text(b"\nrubbish");
-    let c = follow_up(
-        Table {
-            slots: [record(1, 5, 0); 16],
-            number: 0,
-        },
-        types::PTP_IPV4,
-        1,
-    );
+    let c = follow_up(Table::of([record(1, 5, 0); 16], 0), types::PTP_IPV4, 1);
     sync(c, 1);
     print::end_line();
 }

@@ -59,7 +59,7 @@ fn read_slots(s: &[u8]) -> [Record; 16] {
 pub(crate) fn read(s: &[u8]) -> Table {
     let number = octets::read8(s, 0);
     let slots = read_slots(format::after(s, SLOTS));
-    Table { slots, number }
+    Table::of(slots, number)
 }
 
 fn print_slot(slot: Record) {
@@ -82,7 +82,6 @@ fn print_slots(slots: [Record; 16]) {
 
 pub(crate) fn show(table: Table) {
     print::text(b" table ");
-    io::print_hex(STDOUT_FILENO, table.number as u64, 2);
-    let slots = table.slots;
-    print_slots(slots);
+    io::print_hex(STDOUT_FILENO, table.number() as u64, 2);
+    print_slots(table.slots());
 }

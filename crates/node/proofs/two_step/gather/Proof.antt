@@ -4,9 +4,11 @@ use Prim.Native.Nat.{ℕ}
 use mathlib.Core.Path.{sym, ap, _∙_}
 use mathlib.Core.List.{List}
 use Rattle.refusal.specs.Answer.{value}
-use Rattle.table.specs.declared.Found.{Found}
-use Rattle.table.specs.declared.Found.the-variants.{Residence, Refused}
-use Rattle.table.specs.Table.{handedBack, foundAnswer}
+use Rattle.lent.specs.declared.Found.{Found}
+use Rattle.lent.specs.declared.Found.the-variants.{Residence, Refused}
+use Rattle.lent.specs.Answers.{foundAnswer}
+use Rattle.words.specs.Words.{slotsOf, numberOf}
+use Rattle.words.specs.Answers.{left}
 use Rattle.rules.specs.Rules.{added}
 use Rattle.node.proofs.Replies.{gathered}
 use borrow.Author.Needs.{needs}
@@ -15,21 +17,23 @@ use Rattle.node.proofs.two_step.gather.Tie as tie
 
 returns : tie.Need-returns
 returns c = λ k o x.
-    let p = c .before .before .before .before .before in
-    let a = p .before .before .before .before .before .args in
-    let t = p .before .before .before .collect .result .table in
-    let e = ap (λ (y : Found). handedBack (foundAnswer y) t) (sym (p .found .given .1)) ∙ p .before .before .before .collect .ensures in
-    ap (λ (y : List ℕ). record { reply = record { answer = value added; message = y; output = o }; slots = t .slots; number = t .number }) (c .before .before .add-to-pad .ensures)
-    ∙ gathered k (a .table .slots) (a .table .number) (a .identity) (handedBack (foundAnswer (Residence (p .found .given .0 .0))) t) e (a .message .now) o x
+    let a = c .before .before .before .before .before .before .before .before .before .before .args in
+    let w = c .before .before .before .before .before .before .before .collect .last .0 in
+    let e = ap (λ (y : Found). left (foundAnswer y) w) (sym (c .before .before .before .before .before .units .given .1)) ∙ c .before .before .before .before .before .before .before .collect .ensures in
+    ap (λ (y : List ℕ). record { done = record { reply = record { answer = value added; message = y; output = o }; slots = slotsOf w; number = numberOf w }; words = w }) (c .before .before .add-to-pad .ensures)
+    ∙ gathered k (a .words .now) (a .identity) (left (foundAnswer (Residence (c .before .before .before .before .before .units .given .0 .0))) w) e (a .message .now) o x
 
 returns-2 : tie.Need-returns-2
 returns-2 c = λ k o x.
     let a = c .before .before .before .before .before .before .args in
-    let t = c .before .before .before .before .collect .result .table in
-    let e = ap (λ (y : Found). handedBack (foundAnswer y) t) (sym (c .before .found2 .given .1)) ∙ c .before .before .before .before .collect .ensures in
-    gathered k (a .table .slots) (a .table .number) (a .identity) (handedBack (foundAnswer (Refused (c .before .found2 .given .0 .0))) t) e (a .message .now) o x
+    let w = c .before .before .before .collect .last .0 in
+    let e = ap (λ (y : Found). left (foundAnswer y) w) (sym (c .before .n .given .1)) ∙ c .before .before .before .collect .ensures in
+    gathered k (a .words .now) (a .identity) (left (foundAnswer (Refused (c .before .n .given .0 .0))) w) e (a .message .now) o x
 
 pub gather-spec : {M : Type 1} → statement M
 gather-spec =
     tie.close
-    (tie.spec (λ c κs. search needs) (λ c. search needs) (λ c κs. search needs) (λ c. search needs) (λ c. search needs) returns returns-2)
+    (tie.spec
+    (λ c κs. search needs) (λ c. search needs) (λ c κs. search needs) (λ c. search needs) (λ c. search needs)
+    returns
+    returns-2)
