@@ -1,0 +1,350 @@
+/* Random inputs; see inputs.h. They are laid out here octet by octet, by no function that is compared. */
+#include "inputs.h"
+#include <string.h>
+
+#define PICK(list) ((list)[inputs_below(sizeof(list) / sizeof *(list))])
+#define UNITS_LIMIT UINT64_C(262144000000000)
+#define SECOND UINT64_C(1000000000)
+
+static uint64_t state;
+
+void inputs_seed(uint64_t seed) {
+    state = seed * UINT64_C(0x9E3779B97F4A7C15) + 1;
+    if (state == 0) state = 1;
+}
+
+static uint64_t any(void) {
+    state ^= state >> 12;
+    state ^= state << 25;
+    state ^= state >> 27;
+    return state * UINT64_C(2685821657736338717);
+}
+
+uint64_t inputs_below(uint64_t limit) {
+    return (any() >> 11) % limit;
+}
+
+static bool once_in(uint64_t times) {
+    return inputs_below(times) == 0;
+}
+
+static void fill(void *memory, size_t size) {
+    uint8_t *at = memory;
+    while (size > 0) {
+        uint64_t octets = any();
+        size_t step = size < sizeof octets ? size : sizeof octets;
+        memcpy(at, &octets, step);
+        at += step;
+        size -= step;
+    }
+}
+
+static void put(uint8_t *at, size_t octets, uint64_t number) {
+    while (octets-- > 0) {
+        at[octets] = (uint8_t)number;
+        number >>= 8;
+    }
+}
+
+/* Numbers at the ends of their ranges. */
+
+/* In nanoseconds: few, so that a pad can lie just below the largest by one of them. */
+static uint64_t some_residence(void) {
+    static const uint64_t residences[] = {0, 1, 1500, 3999999999, 4000000000};
+    return once_in(2) ? PICK(residences) : inputs_below(4 * SECOND);
+}
+
+static uint64_t near(uint64_t number) {
+    return number + inputs_below(5) - 2;
+}
+
+static uint64_t some_pad(void) {
+    static const uint64_t ends[] = {0, UINT64_C(1) << 63, (UINT64_C(1) << 63) - 1};
+    if (once_in(3)) return any();
+    if (once_in(3)) return (UINT64_C(1) << 63) - 1 - near(some_residence() << 16);
+    return once_in(2) ? PICK(ends) : near(PICK(ends));
+}
+
+static uint64_t some_units(void) {
+    static const uint64_t ends[] = {0, UNITS_LIMIT, (UINT64_C(1) << 63) - 1, UINT64_MAX};
+    if (once_in(8)) return near(PICK(ends));
+    return once_in(16) ? any() : inputs_below(UNITS_LIMIT);
+}
+
+static uint32_t some_part(void) {
+    static const uint32_t ends[] = {0, 999999999, 1000000000, UINT32_MAX};
+    return once_in(4) ? PICK(ends) : (uint32_t)inputs_below(SECOND);
+}
+
+static struct rtm_stamp ptp_later(struct rtm_stamp entry, uint64_t nanoseconds) {
+    uint64_t part = entry.part + nanoseconds;
+    struct rtm_stamp exit;
+    exit.seconds = entry.seconds + (uint32_t)(part / SECOND);
+    exit.part = (uint32_t)(part % SECOND);
+    return exit;
+}
+
+static struct rtm_stamp ntp_later(struct rtm_stamp entry, uint64_t difference) {
+    uint64_t number = ((uint64_t)entry.seconds << 32 | entry.part) + difference;
+    struct rtm_stamp exit;
+    exit.seconds = (uint32_t)(number >> 32);
+    exit.part = (uint32_t)number;
+    return exit;
+}
+
+static void some_stamps(struct input *input) {
+    static const uint64_t differences[] = {0, 1, 65536, (UINT64_C(1) << 34) - 1, UINT64_C(1) << 34};
+    static const uint32_t seconds[] = {0, 1, UINT32_MAX - 1, UINT32_MAX};
+    input->ntp = once_in(2);
+    input->entry.seconds = once_in(2) ? PICK(seconds) : (uint32_t)any();
+    input->entry.part = input->ntp ? (uint32_t)any() : some_part();
+    if (once_in(8)) {
+        input->exit.seconds = input->entry.seconds + (uint32_t)inputs_below(6) - 2;
+        input->exit.part = some_part();
+    } else if (input->ntp) {
+        uint64_t difference = once_in(3) ? PICK(differences) : inputs_below(UINT64_C(5) << 32);
+        input->exit = ntp_later(input->entry, difference);
+    } else {
+        input->exit = ptp_later(input->entry, some_residence());
+    }
+}
+
+/* Identities: 32 of them, so that messages, records and images meet. */
+
+enum { IDENTITIES = 32 };
+
+struct identity {
+    uint64_t clock;
+    uint16_t port, sequence;
+};
+
+static struct identity identity_at(uint64_t place) {
+    static const uint16_t sequences[] = {0, 1, 2, 3, 256, 512, 768, UINT16_MAX};
+    struct identity identity;
+    identity.clock = place & 1 ? UINT64_C(0x0001020304050607) : 0;
+    identity.port = place & 2 ? 0x0100 : 0;
+    identity.sequence = sequences[place >> 2 & 7];
+    return identity;
+}
+
+/* Messages. */
+
+static void lay_message(uint8_t *message, size_t size, uint16_t type) {
+    static const uint8_t ptp_types[] = {0, 0, 0, 1, 1, 8, 8, 8, 9, 9};
+    struct identity identity = identity_at(inputs_below(IDENTITIES));
+    put(message, 4, 0x1000000F);
+    if (once_in(4)) message[1] = (uint8_t)any();
+    put(message + 4, 8, some_pad());
+    put(message + 12, 2, type);
+    put(message + 14, 2, size - 16);
+    if (type == 1 || type == 5) return;
+    put(message + 16, 2, 1);
+    put(message + 18, 2, once_in(2) ? 20 : 16);
+    if (once_in(2)) put(message + 20, 4, 0);
+    message[20] = (uint8_t)((message[20] & 0x7F) | (once_in(3) ? 0 : 0x80));
+    message[23] = (uint8_t)((message[23] & 0xF0) | (once_in(3) ? inputs_below(16) : PICK(ptp_types)));
+    put(message + 24, 8, identity.clock);
+    put(message + 32, 2, identity.port);
+    put(message + 34, 2, identity.sequence);
+}
+
+static size_t some_carried_size(void) {
+    static const size_t ends[] = {2012, 2013, 2032, 2033};
+    if (once_in(32)) return PICK(ends);
+    if (once_in(16)) return inputs_below(2065);
+    return once_in(2) ? 0 : inputs_below(45);
+}
+
+/* One thing that is wrong, or may be. Answers the size. */
+static size_t damage(uint8_t *message, size_t size) {
+    switch (inputs_below(9)) {
+    case 0: message[inputs_below(36)] = (uint8_t)any(); return size;
+    case 1: message[inputs_below(36)] ^= (uint8_t)(1u << inputs_below(8)); return size;
+    case 2: put(message + 12, 2, inputs_below(8)); return size;
+    case 3: put(message + 16, 2, inputs_below(3)); return size;
+    case 4: put(message + 18, 2, 14 + inputs_below(9)); return size;
+    case 5: return inputs_below(81);
+    case 6: size = 16 + inputs_below(24); put(message + 14, 2, size - 16); return size;
+    case 7: message[0] = (uint8_t)(0x10 + inputs_below(17)); return size;
+    default: return size + 1;
+    }
+}
+
+static size_t some_message(uint8_t *message) {
+    uint16_t type = once_in(6) ? (uint16_t)(once_in(2) ? 1 : 5) : (uint16_t)(2 + inputs_below(3));
+    size_t size = type == 1 ? 16 : (type == 5 ? 16 : 36) + some_carried_size();
+    if (once_in(64)) return inputs_below(81);
+    lay_message(message, size, type);
+    return once_in(3) ? damage(message, size) : size;
+}
+
+/* Tables. Records that could be written as an image, or any. */
+
+static void good_record(struct rtm_slot *slot, uint64_t place) {
+    struct identity identity = identity_at(place % IDENTITIES);
+    slot->clock = identity.clock;
+    slot->port = identity.port;
+    slot->sequence = identity.sequence;
+    slot->wait = (uint8_t)(1 + inputs_below(3));
+    slot->kind &= 0xFE;
+    slot->residence = inputs_below(UNITS_LIMIT);
+}
+
+static void any_record(struct rtm_slot *slot) {
+    good_record(slot, inputs_below(IDENTITIES));
+    slot->wait = once_in(4) ? (uint8_t)any() : (uint8_t)inputs_below(4);
+    if (once_in(3)) slot->kind |= 1;
+    slot->residence = some_units();
+}
+
+/* Records in some of the slots; what empty slots hold stays as it was. */
+static unsigned good_records(struct rtm_table *table, unsigned records) {
+    uint64_t start = inputs_below(IDENTITIES), step = 2 * inputs_below(IDENTITIES / 2) + 1;
+    unsigned i, left = records;
+    for (i = 0; i < 16; i++) {
+        table->slot[i].wait = 0;
+        if (inputs_below(16 - i) < left) good_record(&table->slot[i], start + step * left--);
+    }
+    return records;
+}
+
+static void spoil_record(struct rtm_slot *slot, const struct rtm_slot *other) {
+    switch (inputs_below(5)) {
+    case 0: slot->wait = 4; break;
+    case 1: slot->residence = UNITS_LIMIT - inputs_below(2); break;
+    case 2: slot->kind |= 1; break;
+    case 3: *slot = *other; break;
+    default: slot->kind |= 1; slot->clock = other->clock; slot->port = other->port; break;
+    }
+}
+
+static void same_wait(struct rtm_table *table, uint8_t wait) {
+    unsigned i;
+    for (i = 0; i < 16; i++) if (table->slot[i].wait != 0) table->slot[i].wait = wait;
+}
+
+static void some_table(struct rtm_table *table) {
+    unsigned i, records = 0;
+    if (once_in(4)) memset(table, 0, sizeof *table);
+    if (once_in(2)) {
+        for (i = 0; i < 16; i++) any_record(&table->slot[i]);
+    } else {
+        records = good_records(table, once_in(4) ? 16 : (unsigned)inputs_below(17));
+        if (once_in(2)) same_wait(table, 1);
+        if (once_in(4)) spoil_record(&table->slot[inputs_below(16)], &table->slot[inputs_below(16)]);
+    }
+    table->number = once_in(2) ? (uint8_t)records : once_in(2) ? (uint8_t)any() : (uint8_t)inputs_below(19);
+}
+
+static size_t some_room(size_t wanted) {
+    if (once_in(2)) return wanted;
+    if (once_in(2)) return inputs_below(101);
+    return once_in(2) && wanted > 0 ? wanted - 1 : wanted + inputs_below(20);
+}
+
+/* Inputs. */
+
+static void random_input(struct input *input) {
+    fill(input, sizeof *input);
+    input->null = once_in(2);
+    input->first_size = input->second_size = input->place = 0;
+    some_stamps(input);
+    some_table(&input->table);
+    input->room = some_room(once_in(2) ? 36 : 1 + 23 * inputs_below(17));
+}
+
+void input_for_message(struct input *input) {
+    random_input(input);
+    input->first_size = some_message(input->first);
+}
+
+void input_for_write(struct input *input) {
+    struct rtm_fields *fields = &input->told.fields;
+    uint8_t octet = (uint8_t)any();
+    random_input(input);
+    fields->pad = (int64_t)some_pad();
+    fields->type = once_in(8) ? (uint16_t)any() : (uint16_t)inputs_below(7);
+    if (!once_in(8)) fields->length = once_in(2) ? 20 : once_in(8) ? (uint16_t)(14 + inputs_below(9)) : 16;
+    if (!once_in(8)) fields->ptp_type = (uint8_t)inputs_below(17);
+    if (once_in(2)) octet &= 1;
+    memcpy(&fields->two_step, &octet, 1);
+    input->first_size = some_carried_size();
+    input->room = some_room(input->first_size + (fields->type == 1 || fields->type == 5 ? 16 : 36));
+}
+
+/* Mostly a pair, with pads whose sum is near an end; else two messages. */
+void input_for_pair(struct input *input) {
+    uint64_t pad = some_pad(), end = (UINT64_C(1) << 63) - inputs_below(2);
+    input_for_message(input);
+    input->second_size = some_message(input->second);
+    if (once_in(4) || input->first_size < 36) return;
+    input->second_size = 36 + some_carried_size();
+    memcpy(input->second, input->first, 36);
+    put(input->second + 14, 2, input->second_size - 16);
+    put(input->first + 4, 8, pad);
+    put(input->second + 4, 8, once_in(2) ? near(end - pad) : some_pad());
+    input->second[20] = (uint8_t)any();
+    if (!once_in(8)) input->first[20] |= 0x80;
+    if (!once_in(8)) input->first[23] &= 0xF0;
+    if (!once_in(8)) input->second[23] = (uint8_t)((input->second[23] & 0xF0) | 8);
+    if (once_in(8)) input->second[13] = (uint8_t)(2 + inputs_below(3));
+    if (once_in(8)) input->second[24 + inputs_below(12)] ^= (uint8_t)(1u << inputs_below(8));
+    if (once_in(8)) input->second_size = damage(input->second, input->second_size);
+}
+
+static size_t lay_image(uint8_t *image, size_t records) {
+    uint64_t start = inputs_below(IDENTITIES), step = 2 * inputs_below(IDENTITIES / 2) + 1;
+    size_t k, first = 1 + 2 * records;
+    image[0] = (uint8_t)records;
+    for (k = 0; k < records; k++) {
+        struct identity identity = identity_at((start + step * k) % IDENTITIES);
+        uint8_t *at = image + first + 21 * k;
+        put(image + 1 + 2 * k, 2, first + 21 * k);
+        put(at, 8, identity.clock);
+        put(at + 8, 2, identity.port);
+        put(at + 10, 2, identity.sequence);
+        put(at + 12, 8, inputs_below(UNITS_LIMIT));
+        at[20] = (uint8_t)(1 + inputs_below(3));
+    }
+    return first + 21 * records;
+}
+
+static size_t spoil_image(uint8_t *image, size_t size) {
+    size_t records = image[0], k = inputs_below(records + 1), other = inputs_below(records + 1);
+    uint8_t *at = image + 1 + 2 * records;
+    switch (inputs_below(8)) {
+    case 0: return size + 1;
+    case 1: return size - 1;
+    case 2: image[inputs_below(size)] ^= (uint8_t)(1u << inputs_below(8)); return size;
+    case 3: at[21 * k + 20] = once_in(2) ? 0 : 4; return size;
+    case 4: put(at + 21 * k + 12, 8, UNITS_LIMIT - inputs_below(2)); return size;
+    case 5: memmove(at + 21 * k, at + 21 * other, 12); return size;
+    case 6: image[0] = (uint8_t)inputs_below(18); return size;
+    default: put(image + 1 + 2 * k, 2, 1 + 2 * records + 21 * other); return size;
+    }
+}
+
+void input_for_image(struct input *input) {
+    size_t records = inputs_below(18);      /* 17 are one too many */
+    random_input(input);
+    input->first_size = lay_image(input->first, records);
+    if (once_in(2)) input->first_size = spoil_image(input->first, input->first_size);
+}
+
+void input_for_list(struct input *input) {
+    static const uint8_t sizes[] = {0, 8, 20, 12};
+    size_t size = 0, wanted = once_in(4) ? 1000 + inputs_below(30) : inputs_below(once_in(2) ? 50 : 1000);
+    random_input(input);
+    while (size < wanted) {
+        uint8_t type = (uint8_t)(1 + inputs_below(3));
+        if (wanted > 1020 && once_in(2)) type = 1;
+        input->first[size] = type;
+        input->first[size + 1] = sizes[type];
+        size += sizes[type];
+    }
+    if (size > 1024 && once_in(2)) size = 1024;
+    if (size > 0 && once_in(8)) size -= inputs_below(size < 20 ? size : 20);
+    if (once_in(8)) input->first[inputs_below(size + 1)] = (uint8_t)inputs_below(24);
+    input->first_size = size;
+    input->place = once_in(8) ? (size_t)any() : inputs_below(size / 8 + 2);
+}

@@ -1,0 +1,496 @@
+/* The library's rules in plain C; see plain.h. */
+#define _DEFAULT_SOURCE
+#include "plain.h"
+#include <endian.h>
+#include <string.h>
+
+/* Octets of a message (RFC 8169, 3 and 3.1). */
+enum {
+    CHANNEL = 2,
+    PAD = 4,
+    TYPE = 12,
+    LENGTH = 14,
+    VALUE = 16,
+    SUB_TLV_TYPE = 16,
+    SUB_TLV_LENGTH = 18,
+    FLAGS = 20,
+    PTP_TYPE = 23,
+    PORT_IDENTITY = 24,
+    PORT = 32,
+    SEQUENCE = 34,
+    CARRIED = 36
+};
+
+enum { RTM_CHANNEL = 15, PTP_SUB_TLV = 1, S = 0x80 };
+enum { NO_PAYLOAD = 1, ETHERNET = 2, IPV6 = 4, NTP = 5 };
+enum { SYNC = 0, DELAY_REQ = 1, PDELAY_RESP = 3, FOLLOW_UP = 8, DELAY_RESP = 9, LAST_PTP_TYPE = 15 };
+enum { KIND_SYNC = 0, KIND_DELAY = 1, WAIT = 3 };
+
+#define G_ACH_HEADER UINT32_C(0x1000000F)
+#define FOLLOW_UP_FLAGS UINT32_C(0x80000008)
+#define SECOND UINT64_C(1000000000)
+#define LONGEST UINT64_C(3999999999)              /* residence, in nanoseconds */
+#define UNITS_LIMIT UINT64_C(262144000000000)     /* every residence is below it */
+#define SIGN (UINT64_C(1) << 63)
+
+static inline uint16_t get16(const uint8_t *at) {
+    uint16_t x;
+    memcpy(&x, at, sizeof x);
+    return be16toh(x);
+}
+
+static inline uint64_t get64(const uint8_t *at) {
+    uint64_t x;
+    memcpy(&x, at, sizeof x);
+    return be64toh(x);
+}
+
+static inline void put16(uint8_t *at, uint16_t x) {
+    x = htobe16(x);
+    memcpy(at, &x, sizeof x);
+}
+
+static inline void put32(uint8_t *at, uint32_t x) {
+    x = htobe32(x);
+    memcpy(at, &x, sizeof x);
+}
+
+static inline void put64(uint8_t *at, uint64_t x) {
+    x = htobe64(x);
+    memcpy(at, &x, sizeof x);
+}
+
+/* Reading */
+
+static inline bool is_ptp(uint16_t type) {
+    return ETHERNET <= type && type <= IPV6;
+}
+
+static inline uint8_t ptp_type(const uint8_t *message) {
+    return message[PTP_TYPE] & 0x0F;
+}
+
+static inline bool states_length(uint16_t length) {
+    return length == 20 || length == 16;
+}
+
+/* The header up to its Type, then the Value: 0 or the refusal. */
+static inline uint8_t check(const uint8_t *message, size_t size) {
+    uint16_t type;
+    if (size < VALUE) return RTM_TOO_SHORT;
+    if (size > RTM_LARGEST_MESSAGE) return RTM_TOO_LONG;
+    if (message[0] >> 4 != 1 || get16(message + CHANNEL) != RTM_CHANNEL) return RTM_NOT_RTM;
+    if ((message[0] & 0x0F) != 0) return RTM_VERSION;
+    if (get16(message + LENGTH) != size - VALUE) return RTM_LENGTH;
+    type = get16(message + TYPE);
+    if (type < NO_PAYLOAD || type > NTP) return RTM_TYPE;
+    if (type == NTP) return 0;
+    if (type == NO_PAYLOAD) return size == VALUE ? 0 : RTM_VALUE_SIZE;
+    if (size < CARRIED) return RTM_VALUE_SIZE;
+    if (get16(message + SUB_TLV_TYPE) != PTP_SUB_TLV) return RTM_SUB_TLV;
+    if (!states_length(get16(message + SUB_TLV_LENGTH))) return RTM_SUB_TLV;
+    return 0;
+}
+
+uint8_t plain_read(const uint8_t *message, size_t size, struct rtm_fields *fields) {
+    uint8_t refusal = check(message, size);
+    if (refusal) return refusal;
+    fields->pad = (int64_t)get64(message + PAD);
+    fields->type = get16(message + TYPE);
+    if (!is_ptp(fields->type)) return 0;
+    fields->clock = get64(message + PORT_IDENTITY);
+    fields->length = get16(message + SUB_TLV_LENGTH);
+    fields->port = get16(message + PORT);
+    fields->sequence = get16(message + SEQUENCE);
+    fields->two_step = (message[FLAGS] & S) != 0;
+    fields->ptp_type = ptp_type(message);
+    return 0;
+}
+
+uint8_t plain_carried(const uint8_t *message, size_t size, struct rtm_part *packet) {
+    uint8_t refusal = check(message, size);
+    if (refusal) return refusal;
+    packet->offset = is_ptp(get16(message + TYPE)) ? CARRIED : VALUE;
+    packet->length = size - packet->offset;
+    return 0;
+}
+
+/* Writing */
+
+static void put_sub_tlv(uint8_t *message, const struct rtm_fields *fields) {
+    put16(message + SUB_TLV_TYPE, PTP_SUB_TLV);
+    put16(message + SUB_TLV_LENGTH, fields->length);
+    put32(message + FLAGS, (fields->two_step ? (uint32_t)S << 24 : 0) | fields->ptp_type);
+    put64(message + PORT_IDENTITY, fields->clock);
+    put16(message + PORT, fields->port);
+    put16(message + SEQUENCE, fields->sequence);
+}
+
+uint8_t plain_write(const struct rtm_fields *fields, const uint8_t *carried, size_t carried_size,
+                    uint8_t *output, size_t room, size_t *size) {
+    bool ptp = is_ptp(fields->type);
+    size_t start = ptp ? CARRIED : VALUE;
+    if (fields->type < NO_PAYLOAD || fields->type > NTP) return RTM_TYPE;
+    if (ptp && fields->ptp_type > LAST_PTP_TYPE) return RTM_PTP_TYPE;
+    if (ptp && !states_length(fields->length)) return RTM_SUB_TLV_LENGTH;
+    if (fields->type == NO_PAYLOAD && carried_size > 0) return RTM_VALUE_SIZE;
+    if (carried_size > RTM_LARGEST_MESSAGE - start) return RTM_TOO_LONG;
+    if (room < start + carried_size) return RTM_OUTPUT_TOO_SMALL;
+    put32(output, G_ACH_HEADER);
+    put64(output + PAD, (uint64_t)fields->pad);
+    put16(output + TYPE, fields->type);
+    put16(output + LENGTH, (uint16_t)(start - VALUE + carried_size));
+    if (ptp) put_sub_tlv(output, fields);
+    if (carried_size > 0) memcpy(output + start, carried, carried_size);
+    *size = start + carried_size;
+    return 0;
+}
+
+/* Residence */
+
+static inline uint8_t ptp_units(struct rtm_stamp entry, struct rtm_stamp exit, uint64_t *units) {
+    int64_t residence;
+    if (entry.part >= SECOND || exit.part >= SECOND) return RTM_INVALID_STAMP;
+    residence = (int64_t)((uint64_t)(uint32_t)(exit.seconds - entry.seconds) * SECOND);
+    residence += (int64_t)exit.part - (int64_t)entry.part;
+    if (residence < 0 || residence > (int64_t)LONGEST) return RTM_TOO_LONG_RESIDENCE;
+    *units = (uint64_t)residence << 16;
+    return 0;
+}
+
+static inline uint64_t ntp_number(struct rtm_stamp stamp) {
+    return (uint64_t)stamp.seconds << 32 | stamp.part;
+}
+
+static inline uint8_t ntp_units(struct rtm_stamp entry, struct rtm_stamp exit, uint64_t *units) {
+    uint64_t difference = ntp_number(exit) - ntp_number(entry);
+    if (difference >> 34 != 0) return RTM_TOO_LONG_RESIDENCE;
+    *units = difference * SECOND >> 16;
+    return 0;
+}
+
+static inline uint8_t units_between(bool ntp, struct rtm_stamp entry, struct rtm_stamp exit,
+                                    uint64_t *units) {
+    return ntp ? ntp_units(entry, exit, units) : ptp_units(entry, exit, units);
+}
+
+uint8_t plain_residence(bool ntp, struct rtm_stamp entry, struct rtm_stamp exit, uint64_t *units) {
+    return units_between(ntp, entry, exit, units);
+}
+
+/* One-step node */
+
+/* Counted from -2^63 a pad is unsigned, and a sum that does not fit is held at the largest. */
+static inline void add_to_pad(uint8_t *message, uint64_t units) {
+    uint64_t pad = get64(message + PAD) ^ SIGN;
+    uint64_t sum = pad + units;
+    if (sum < pad) sum = UINT64_MAX;
+    put64(message + PAD, sum ^ SIGN);
+}
+
+uint8_t plain_one_step(uint8_t *message, size_t size, bool ntp, struct rtm_stamp entry,
+                       struct rtm_stamp exit) {
+    uint64_t units;
+    uint8_t refusal = check(message, size);
+    if (refusal) return refusal;
+    if (is_ptp(get16(message + TYPE)) && ptp_type(message) > PDELAY_RESP) return RTM_PASSED;
+    refusal = units_between(ntp, entry, exit, &units);
+    if (refusal) return refusal;
+    add_to_pad(message, units);
+    return RTM_UPDATED;
+}
+
+/* The table */
+
+struct identity {
+    uint64_t clock;
+    uint16_t port, sequence;
+    uint8_t kind;
+};
+
+static inline struct identity identity_of(const uint8_t *message, uint8_t kind) {
+    struct identity identity;
+    identity.clock = get64(message + PORT_IDENTITY);
+    identity.port = get16(message + PORT);
+    identity.sequence = get16(message + SEQUENCE);
+    identity.kind = kind;
+    return identity;
+}
+
+static inline bool is_of(const struct plain_record *slot, const struct identity *identity) {
+    return slot->wait != 0 && slot->kind == identity->kind && slot->clock == identity->clock &&
+           slot->port == identity->port && slot->sequence == identity->sequence;
+}
+
+/* The same test with the field first that tells the records of one port apart. */
+static inline bool is_of_by_sequence(const struct plain_record *slot, const struct identity *identity) {
+    return slot->sequence == identity->sequence && slot->port == identity->port &&
+           slot->clock == identity->clock && slot->kind == identity->kind && slot->wait != 0;
+}
+
+enum order { AS_WRITTEN, BY_SEQUENCE };
+
+static inline struct plain_record *find(struct plain_table *table, const struct identity *identity,
+                                        enum order order) {
+    struct plain_record *slot = table->slot, *end = slot + PLAIN_SLOTS;
+    for (; slot < end; slot++) {
+        if (order == BY_SEQUENCE ? is_of_by_sequence(slot, identity) : is_of(slot, identity)) return slot;
+    }
+    return NULL;
+}
+
+static inline struct plain_record *empty_slot(struct plain_table *table) {
+    struct plain_record *slot = table->slot, *end = slot + PLAIN_SLOTS;
+    for (; slot < end; slot++) if (slot->wait == 0) return slot;
+    return NULL;
+}
+
+static inline uint8_t number_of(const struct plain_table *table) {
+    return table->number > PLAIN_SLOTS ? PLAIN_SLOTS : table->number;
+}
+
+static inline void one_more(struct plain_table *table) {
+    uint8_t number = number_of(table);
+    table->number = number < PLAIN_SLOTS ? (uint8_t)(number + 1) : PLAIN_SLOTS;
+}
+
+static inline void fewer(struct plain_table *table, uint8_t emptied) {
+    uint8_t number = number_of(table);
+    if (emptied == 0) return;
+    table->number = number > emptied ? (uint8_t)(number - emptied) : 0;
+}
+
+static inline uint8_t keep(struct plain_table *table, const struct identity *identity, uint64_t units,
+                           enum order order) {
+    struct plain_record *slot;
+    if (find(table, identity, order)) return RTM_ALREADY_WAITING;
+    slot = empty_slot(table);
+    if (!slot) return RTM_NO_EMPTY_SLOT;
+    slot->clock = identity->clock;
+    slot->residence = units;
+    slot->port = identity->port;
+    slot->sequence = identity->sequence;
+    slot->kind = identity->kind;
+    slot->wait = WAIT;
+    one_more(table);
+    return RTM_WAITING;
+}
+
+void plain_new(struct plain_table *table) {
+    memset(table, 0, sizeof *table);
+}
+
+uint8_t plain_tick(struct plain_table *table) {
+    uint8_t emptied = 0;
+    int i;
+    for (i = 0; i < PLAIN_SLOTS; i++) {
+        struct plain_record *slot = &table->slot[i];
+        if (slot->wait == 0 || --slot->wait > 0) continue;
+        memset(slot, 0, sizeof *slot);
+        emptied++;
+    }
+    fewer(table, emptied);
+    return emptied;
+}
+
+uint8_t plain_waiting(const struct plain_table *table) {
+    return number_of(table);
+}
+
+/* Two-step node */
+
+static inline uint8_t create(uint8_t *sync, uint64_t units, uint8_t *output, size_t room) {
+    if (room < CARRIED) return RTM_OUTPUT_TOO_SMALL;
+    put32(output, G_ACH_HEADER);
+    put64(output + PAD, units);
+    memcpy(output + TYPE, sync + TYPE, LENGTH - TYPE);
+    put16(output + LENGTH, CARRIED - VALUE);
+    put16(output + SUB_TLV_TYPE, PTP_SUB_TLV);
+    memcpy(output + SUB_TLV_LENGTH, sync + SUB_TLV_LENGTH, FLAGS - SUB_TLV_LENGTH);
+    put32(output + FLAGS, FOLLOW_UP_FLAGS);
+    memcpy(output + PORT_IDENTITY, sync + PORT_IDENTITY, CARRIED - PORT_IDENTITY);
+    sync[FLAGS] |= S;
+    return RTM_CREATED;
+}
+
+static inline uint8_t collect(struct plain_table *table, uint8_t *message, uint8_t kind, enum order order) {
+    struct identity identity = identity_of(message, kind);
+    struct plain_record *slot = find(table, &identity, order);
+    if (!slot) return RTM_NO_RECORD;
+    add_to_pad(message, slot->residence);
+    memset(slot, 0, sizeof *slot);
+    fewer(table, 1);
+    return RTM_ADDED;
+}
+
+static inline uint8_t two_step(struct plain_table *table, uint8_t *message, size_t size, uint8_t *output,
+                               size_t room, bool ntp, struct rtm_stamp entry, struct rtm_stamp exit,
+                               enum order order) {
+    struct identity identity;
+    uint64_t units;
+    uint8_t kind, refusal = check(message, size);
+    if (refusal) return refusal;
+    if (!is_ptp(get16(message + TYPE))) return RTM_NOT_FOR_TWO_STEP;
+    kind = ptp_type(message);
+    if (kind == FOLLOW_UP) return collect(table, message, KIND_SYNC, order);
+    if (kind == DELAY_RESP) return collect(table, message, KIND_DELAY, order);
+    if (kind > PDELAY_RESP) return RTM_PASSED;
+    if (kind > DELAY_REQ) return RTM_NOT_FOR_TWO_STEP;
+    refusal = units_between(ntp, entry, exit, &units);
+    if (refusal) return refusal;
+    if (kind == SYNC && (message[FLAGS] & S) == 0) return create(message, units, output, room);
+    identity = identity_of(message, kind == SYNC ? KIND_SYNC : KIND_DELAY);
+    return keep(table, &identity, units, order);
+}
+
+uint8_t plain_two_step(struct plain_table *table, uint8_t *message, size_t size, uint8_t *output, size_t room,
+                       bool ntp, struct rtm_stamp entry, struct rtm_stamp exit) {
+    return two_step(table, message, size, output, room, ntp, entry, exit, AS_WRITTEN);
+}
+
+uint8_t plain_two_step_by_sequence(struct plain_table *table, uint8_t *message, size_t size, uint8_t *output,
+                                   size_t room, bool ntp, struct rtm_stamp entry, struct rtm_stamp exit) {
+    return two_step(table, message, size, output, room, ntp, entry, exit, BY_SEQUENCE);
+}
+
+/* Images: the number of records, their offsets, then the records */
+
+enum { OFFSET_SIZE = 2, RECORD_SIZE = 21 };
+enum { AT_CLOCK = 0, AT_PORT = 8, AT_SEQUENCE = 10, AT_RESIDENCE = 12, AT_WAIT = 20 };
+
+static inline size_t record_at(size_t records, size_t place) {
+    return 1 + OFFSET_SIZE * records + RECORD_SIZE * place;
+}
+
+static inline bool same_identity(const struct plain_record *a, const struct plain_record *b) {
+    return a->sequence == b->sequence && a->clock == b->clock && a->port == b->port;
+}
+
+static bool loadable(const struct plain_record *record, size_t records) {
+    size_t i, j;
+    for (i = 0; i < records; i++) {
+        if (record[i].kind != KIND_SYNC) return false;
+        if (record[i].wait < 1 || record[i].wait > WAIT) return false;
+        if (record[i].residence >= UNITS_LIMIT) return false;
+        for (j = 0; j < i; j++) if (same_identity(&record[i], &record[j])) return false;
+    }
+    return true;
+}
+
+uint8_t plain_write_image(const struct plain_table *table, uint8_t *output, size_t room, size_t *size) {
+    struct plain_record record[PLAIN_SLOTS];
+    size_t records = 0, k;
+    for (k = 0; k < PLAIN_SLOTS; k++) if (table->slot[k].wait != 0) record[records++] = table->slot[k];
+    if (!loadable(record, records)) return RTM_IMAGE;
+    if (room < record_at(records, records)) return RTM_OUTPUT_TOO_SMALL;
+    output[0] = (uint8_t)records;
+    for (k = 0; k < records; k++) {
+        uint8_t *at = output + record_at(records, k);
+        put16(output + 1 + OFFSET_SIZE * k, (uint16_t)record_at(records, k));
+        put64(at + AT_CLOCK, record[k].clock);
+        put16(at + AT_PORT, record[k].port);
+        put16(at + AT_SEQUENCE, record[k].sequence);
+        put64(at + AT_RESIDENCE, record[k].residence);
+        at[AT_WAIT] = record[k].wait;
+    }
+    *size = record_at(records, records);
+    return 0;
+}
+
+static inline void get_record(const uint8_t *at, struct plain_record *record) {
+    record->clock = get64(at + AT_CLOCK);
+    record->port = get16(at + AT_PORT);
+    record->sequence = get16(at + AT_SEQUENCE);
+    record->residence = get64(at + AT_RESIDENCE);
+    record->wait = at[AT_WAIT];
+}
+
+uint8_t plain_load_image(struct plain_table *table, const uint8_t *image, size_t size) {
+    struct plain_record record[PLAIN_SLOTS] = {{0}};
+    size_t records, k;
+    if (size < 1) return RTM_IMAGE;
+    records = image[0];
+    if (records > PLAIN_SLOTS || size != record_at(records, records)) return RTM_IMAGE;
+    for (k = 0; k < records; k++) {
+        if (get16(image + 1 + OFFSET_SIZE * k) != record_at(records, k)) return RTM_IMAGE;
+        get_record(image + record_at(records, k), &record[k]);
+    }
+    if (!loadable(record, records)) return RTM_IMAGE;
+    memcpy(table->slot, record, sizeof record);
+    table->number = (uint8_t)records;
+    return 0;
+}
+
+/* Joining */
+
+static inline bool is_pair(const uint8_t *sync, const uint8_t *follow_up) {
+    return is_ptp(get16(sync + TYPE)) && get16(sync + TYPE) == get16(follow_up + TYPE) &&
+           ptp_type(sync) == SYNC && (sync[FLAGS] & S) != 0 && ptp_type(follow_up) == FOLLOW_UP &&
+           memcmp(sync + PORT_IDENTITY, follow_up + PORT_IDENTITY, CARRIED - PORT_IDENTITY) == 0;
+}
+
+static inline uint8_t add_pads(int64_t a, int64_t b, int64_t *sum) {
+    if (a == INT64_MAX || b == INT64_MAX || (b > 0 && a > INT64_MAX - b)) {
+        *sum = INT64_MAX;
+        return 0;
+    }
+    if (b < 0 && a < INT64_MIN - b) return RTM_SUM_OUT_OF_RANGE;
+    *sum = a + b;
+    return 0;
+}
+
+uint8_t plain_join(const uint8_t *sync, size_t sync_size, const uint8_t *follow_up, size_t follow_up_size,
+                   struct rtm_joined *joined) {
+    int64_t total;
+    bool own = follow_up_size > CARRIED;
+    uint8_t refusal = check(sync, sync_size);
+    if (refusal) return refusal;
+    refusal = check(follow_up, follow_up_size);
+    if (refusal) return refusal;
+    if (!is_pair(sync, follow_up)) return RTM_NOT_A_PAIR;
+    refusal = add_pads((int64_t)get64(sync + PAD), (int64_t)get64(follow_up + PAD), &total);
+    if (refusal) return refusal;
+    joined->total = total;
+    joined->message = own ? RTM_OF_FOLLOW_UP : RTM_OF_SYNC;
+    joined->packet.offset = CARRIED;
+    joined->packet.length = (own ? follow_up_size : sync_size) - CARRIED;
+    return 0;
+}
+
+/* The address list of the RTM_SET TLV */
+
+enum { LARGEST_LIST = 1024 };
+
+/* The size of the entry at the start of a rest of the list; 0 for a bad one. */
+static inline size_t entry_size(const uint8_t *rest, size_t size) {
+    size_t wanted;
+    if (size < 2) return 0;
+    if (rest[0] == 1) wanted = 8;
+    else if (rest[0] == 2) wanted = 20;
+    else if (rest[0] == 3) wanted = 12;
+    else return 0;
+    return rest[1] == wanted && wanted <= size ? wanted : 0;
+}
+
+uint8_t plain_address_count(const uint8_t *list, size_t size, size_t *count) {
+    size_t at, step, entries = 0;
+    if (size > LARGEST_LIST) return RTM_LIST_TOO_LONG;
+    for (at = 0; at < size; at += step) {
+        step = entry_size(list + at, size - at);
+        if (step == 0) return RTM_BAD_ENTRY;
+        entries++;
+    }
+    *count = entries;
+    return 0;
+}
+
+uint8_t plain_address_entry(const uint8_t *list, size_t size, size_t place, struct rtm_part *entry) {
+    size_t count, at = 0;
+    uint8_t refusal = plain_address_count(list, size, &count);
+    if (refusal) return refusal;
+    if (place >= count) return RTM_NO_ENTRY;
+    for (; place > 0; place--) at += list[at + 1];
+    entry->offset = at;
+    entry->length = list[at + 1];
+    return 0;
+}

@@ -1,0 +1,156 @@
+/*
+ * stack [inputs [seed]]: how many octets of stack one call of each function uses, its return address
+ * included. Calls on random inputs, and on the list of most entries, run on a stack that was painted before;
+ * the deepest word that is no longer paint counts.
+ */
+#define _DEFAULT_SOURCE
+#include "inputs.h"
+#include <stdio.h>
+#include <stdlib.h>
+#include <string.h>
+#include <ucontext.h>
+
+enum { WORDS = 1 << 13, WORD = 8, INPUTS = 5000 };
+#define PAINT UINT64_C(0xA55AC33C96690FF0)
+
+typedef void function(void);
+
+static struct input input;
+
+/* A call must return here, and not to the caller of the function that makes it. */
+#define RETURN_HERE __asm__ volatile("" ::: "memory")
+
+/* A call of any function with the arguments of the one that is named. */
+#define CALL(name, ...) \
+    static void call_##name(function *any) { \
+        (void)((__typeof__(&rtm_##name))any)(__VA_ARGS__); \
+        RETURN_HERE; \
+    }
+
+CALL(read, input.first, input.first_size, &input.told.fields)
+CALL(carried, input.first, input.first_size, &input.told.part)
+CALL(write, &input.told.fields, input.first, input.first_size, input.output, input.room, &input.told.size)
+CALL(residence, input.ntp, input.entry, input.exit, &input.told.units)
+CALL(one_step, input.first, input.first_size, input.ntp, input.entry, input.exit)
+CALL(two_step, &input.table, input.first, input.first_size, input.output, input.room, input.ntp, input.entry,
+     input.exit)
+CALL(new, &input.table)
+CALL(tick, &input.table)
+CALL(waiting, &input.table)
+CALL(write_image, &input.table, input.output, input.room, &input.told.size)
+CALL(load_image, &input.table, input.first, input.first_size)
+CALL(join, input.first, input.first_size, input.second, input.second_size, &input.told.joined)
+CALL(address_count, input.first, input.first_size, &input.told.size)
+CALL(address_entry, input.first, input.first_size, input.place, &input.told.part)
+
+#define MEASURED(name) #name, call_##name, (function *)rtm_##name
+
+static const struct measured {
+    const char *name;
+    void (*call)(function *);
+    function *library;
+    void (*input)(struct input *);
+} measured[] = {
+    {MEASURED(read), input_for_message},
+    {MEASURED(carried), input_for_message},
+    {MEASURED(write), input_for_write},
+    {MEASURED(residence), input_for_message},
+    {MEASURED(one_step), input_for_message},
+    {MEASURED(two_step), input_for_message},
+    {MEASURED(new), input_for_message},
+    {MEASURED(tick), input_for_message},
+    {MEASURED(waiting), input_for_message},
+    {MEASURED(write_image), input_for_message},
+    {MEASURED(load_image), input_for_image},
+    {MEASURED(join), input_for_pair},
+    {MEASURED(address_count), input_for_list},
+    {MEASURED(address_entry), input_for_list},
+};
+enum { FUNCTIONS = sizeof measured / sizeof *measured };
+
+/* The painted stack, and where on it the return address of a call ends. */
+static uint64_t stack[WORDS] __attribute__((aligned(64)));
+static const uint64_t *top;
+static ucontext_t caller, painted;
+static const struct measured *now;
+static function *called;
+
+/* Its frame begins with the return address and the frame before. */
+static __attribute__((noinline)) void mark(void) {
+    top = (const uint64_t *)__builtin_frame_address(0) + 2;
+}
+
+static __attribute__((noinline)) void nothing(void) {
+    __asm__ volatile("");
+}
+
+static void on_stack(void) {
+    now->call(called);
+    RETURN_HERE;
+}
+
+static void run(function *it) {
+    called = it;
+    getcontext(&painted);
+    painted.uc_stack.ss_sp = stack;
+    painted.uc_stack.ss_size = sizeof stack;
+    painted.uc_link = &caller;
+    makecontext(&painted, on_stack, 0);
+    swapcontext(&caller, &painted);
+}
+
+static long used_by(function *it) {
+    const uint64_t *deepest = stack;
+    int i;
+    run(mark);
+    for (i = 0; i < WORDS; i++) stack[i] = PAINT;
+    run(it);
+    while (deepest < top && *deepest == PAINT) deepest++;
+    if (deepest == stack) {
+        printf("%s: more than %d octets\n", now->name, WORDS * WORD);
+        exit(1);
+    }
+    return (top - deepest) * WORD;
+}
+
+/* 128 entries, the last of which is asked for. */
+static void longest_list(void) {
+    size_t at;
+    input.first_size = 1024;
+    for (at = 0; at < input.first_size; at += 8) {
+        input.first[at] = 1;
+        input.first[at + 1] = 8;
+    }
+    input.place = 127;
+}
+
+static long most_used(long inputs) {
+    long used, most = 0;
+    for (; inputs >= 0; inputs--) {
+        now->input(&input);
+        if (inputs == 0 && now->input == input_for_list) longest_list();
+        used = used_by(now->library);
+        if (used > most) most = used;
+    }
+    return most;
+}
+
+int main(int argc, char **argv) {
+    long inputs = argc > 1 ? atol(argv[1]) : INPUTS, largest = 0;
+    int i;
+    inputs_seed(argc > 2 ? strtoull(argv[2], NULL, 10) : 1);
+    printf("%-16s %s\n", "function", "stack, octets");
+    for (i = 0; i < FUNCTIONS; i++) {
+        long most;
+        now = &measured[i];
+        most = most_used(inputs);
+        if (used_by(nothing) != WORD) {
+            printf("%s: a call of nothing uses %ld octets\n", now->name, used_by(nothing));
+            return 1;
+        }
+        printf("%-16s %13ld\n", now->name, most);
+        if (most > largest) largest = most;
+    }
+    printf("%-16s %13ld\n", "largest", largest);
+    return 0;
+}

@@ -1,0 +1,254 @@
+/*
+ * time [rounds]: times the library and plain C side by side, in one process on one processor. Each figure is
+ * the least of many rounds, in which the two take turns. Both make the same calls on the same octets, which
+ * are laid out anew before each run; a call that does not answer as it should stops the program. Both stand
+ * in other files, so that the compiler cannot leave a call out.
+ */
+#define _GNU_SOURCE
+#include "plain.h"
+#include <sched.h>
+#include <stdio.h>
+#include <stdlib.h>
+#include <string.h>
+#include <time.h>
+
+enum { MESSAGE = 36, PACKET = 44, ENTRIES = 51, ENTRY = 20, CALLS = 10000, ROUNDS = 201, TICKS = 250 };
+
+/* From libby_value.a: `count` pairs at a two-step node, called from Rattle code with the table by value or
+   lent. They answer how many pairs went well. */
+uint64_t bench_pairs(uint8_t *sync, size_t sync_size, uint8_t *follow_up, size_t follow_up_size,
+                     uint8_t *output, size_t room, uint64_t count);
+uint64_t bench_pairs_lent(uint8_t *sync, size_t sync_size, uint8_t *follow_up, size_t follow_up_size,
+                          uint8_t *output, size_t room, uint64_t count);
+
+/* What the calls are lent. */
+static uint8_t sync[MESSAGE], clear[MESSAGE], follow_up[MESSAGE];     /* Sync with S set, and with S clear */
+static uint8_t packet[PACKET], output[RTM_LARGEST_MESSAGE], image[RTM_IMAGE_SIZE], list[ENTRIES * ENTRY];
+static const struct rtm_stamp entry = {100, 999999000}, leave = {101, 500};
+static struct rtm_fields fields;
+static struct rtm_joined joined;
+static size_t size;
+static struct rtm_table library_table, library_full;
+static struct plain_table plain_table, plain_full;
+
+static void lay_message(uint8_t *message, uint8_t flags, uint8_t ptp_type) {
+    static const uint8_t octets[MESSAGE] = {
+        0x10, 0, 0, 15, 0, 0, 0, 0, 0, 0, 0, 0, 0, 2, 0, 20,
+        0, 1, 0, 20, 0, 0, 0, 0, 1, 2, 3, 4, 5, 6, 7, 8, 0, 9, 0, 77};
+    memcpy(message, octets, MESSAGE);
+    message[20] = flags;
+    message[23] = ptp_type;
+}
+
+/* Other Syncs of the same port identity, in the slots from 0 on. */
+static void lay_tables(int others, uint8_t wait) {
+    int i;
+    rtm_new(&library_table);
+    plain_new(&plain_table);
+    for (i = 0; i < others; i++) {
+        struct plain_record record = {0x0102030405060708, 5, 9, 0, 0, 0};
+        struct rtm_slot slot = {0x0102030405060708, 0, 0, 0, 9, 0, 0, 5};
+        record.sequence = slot.sequence = (uint16_t)(1000 + i);
+        record.wait = slot.wait = wait;
+        plain_table.slot[i] = record;
+        library_table.slot[i] = slot;
+    }
+    library_table.number = plain_table.number = (uint8_t)others;
+}
+
+static void lay_messages(void) {
+    int i;
+    lay_message(sync, 0x80, 0);
+    lay_message(clear, 0, 0);
+    lay_message(follow_up, 0x80, 8);
+    rtm_read(sync, MESSAGE, &fields);
+    for (i = 0; i < ENTRIES; i++) {
+        list[i * ENTRY] = 2;
+        list[i * ENTRY + 1] = ENTRY;
+    }
+}
+
+static void prepare(void) {
+    lay_messages();
+    lay_tables(0, 0);
+}
+
+static void prepare_15(void) {
+    lay_messages();
+    lay_tables(15, 3);
+}
+
+static void prepare_16(void) {
+    lay_tables(16, 3);
+    rtm_write_image(&library_table, image, sizeof image, &size);
+}
+
+static void prepare_ticks(void) {
+    lay_tables(16, TICKS + 2);
+    library_full = library_table;
+    plain_full = plain_table;
+}
+
+/* Loops of one call, for the library and for plain C. They answer how many calls answered otherwise. */
+
+#define LOOP(name, answer, function, ...) \
+    static uint64_t library_##name(uint64_t calls) { \
+        struct rtm_table *table = &library_table; \
+        uint64_t wrong = 0; \
+        for ((void)table; calls > 0; calls--) wrong += rtm_##function(__VA_ARGS__) != (answer); \
+        return wrong; \
+    } \
+    static uint64_t own_##name(uint64_t calls) { \
+        struct plain_table *table = &plain_table; \
+        uint64_t wrong = 0; \
+        for ((void)table; calls > 0; calls--) wrong += plain_##function(__VA_ARGS__) != (answer); \
+        return wrong; \
+    }
+
+LOOP(read, 0, read, sync, MESSAGE, &fields)
+LOOP(one_step_ptp, RTM_UPDATED, one_step, clear, MESSAGE, RTM_PTP, entry, leave)
+LOOP(one_step_ntp, RTM_UPDATED, one_step, clear, MESSAGE, RTM_NTP, entry, leave)
+LOOP(join, 0, join, sync, MESSAGE, follow_up, MESSAGE, &joined)
+LOOP(write, 0, write, &fields, packet, PACKET, output, sizeof output, &size)
+LOOP(write_image, 0, write_image, table, output, sizeof output, &size)
+LOOP(load_image, 0, load_image, table, image, sizeof image)
+LOOP(address_count, 0, address_count, list, sizeof list, &size)
+
+/* S is cleared again before each call. */
+LOOP(created, RTM_CREATED, two_step, table, (clear[20] = 0, clear), MESSAGE, output, sizeof output, RTM_PTP,
+     entry, leave)
+
+/* Loops of two calls. */
+
+#define TWO_STEP(function, table, message) \
+    function(table, message, MESSAGE, output, sizeof output, RTM_PTP, entry, leave)
+
+static uint64_t library_pair(uint64_t calls) {
+    uint64_t wrong = 0;
+    for (; calls > 0; calls--) {
+        wrong += TWO_STEP(rtm_two_step, &library_table, sync) != RTM_WAITING;
+        wrong += TWO_STEP(rtm_two_step, &library_table, follow_up) != RTM_ADDED;
+    }
+    return wrong;
+}
+
+static uint64_t own_pair(uint64_t calls) {
+    uint64_t wrong = 0;
+    for (; calls > 0; calls--) {
+        wrong += TWO_STEP(plain_two_step, &plain_table, sync) != RTM_WAITING;
+        wrong += TWO_STEP(plain_two_step, &plain_table, follow_up) != RTM_ADDED;
+    }
+    return wrong;
+}
+
+static uint64_t own_pair_by_sequence(uint64_t calls) {
+    uint64_t wrong = 0;
+    for (; calls > 0; calls--) {
+        wrong += TWO_STEP(plain_two_step_by_sequence, &plain_table, sync) != RTM_WAITING;
+        wrong += TWO_STEP(plain_two_step_by_sequence, &plain_table, follow_up) != RTM_ADDED;
+    }
+    return wrong;
+}
+
+/* Ticks that empty no slot: the table is filled again before its waits run out. */
+
+static uint64_t library_tick(uint64_t calls) {
+    uint64_t i, wrong = 0;
+    for (i = 0; i < calls; i++) {
+        if (i % TICKS == 0) library_table = library_full;
+        wrong += rtm_tick(&library_table) != 0;
+    }
+    return wrong;
+}
+
+static uint64_t own_tick(uint64_t calls) {
+    uint64_t i, wrong = 0;
+    for (i = 0; i < calls; i++) {
+        if (i % TICKS == 0) plain_table = plain_full;
+        wrong += plain_tick(&plain_table) != 0;
+    }
+    return wrong;
+}
+
+static uint64_t by_value(uint64_t calls) {
+    return calls - bench_pairs(sync, MESSAGE, follow_up, MESSAGE, output, sizeof output, calls);
+}
+
+static uint64_t lent_from_rattle(uint64_t calls) {
+    return calls - bench_pairs_lent(sync, MESSAGE, follow_up, MESSAGE, output, sizeof output, calls);
+}
+
+static const struct timed {
+    const char *name;
+    void (*prepare)(void);
+    uint64_t (*plain)(uint64_t), (*library)(uint64_t);
+} timed[] = {
+    {"read", prepare, own_read, library_read},
+    {"one-step, PTP stamps", prepare, own_one_step_ptp, library_one_step_ptp},
+    {"one-step, NTP stamps", prepare, own_one_step_ntp, library_one_step_ntp},
+    {"Sync and Follow_Up, empty table", prepare, own_pair, library_pair},
+    {"Sync and Follow_Up, 15 waiting", prepare_15, own_pair, library_pair},
+    {"  beside C that compares sequences first", prepare_15, own_pair_by_sequence, library_pair},
+    {"created", prepare, own_created, library_created},
+    {"tick, 16 waiting", prepare_ticks, own_tick, library_tick},
+    {"join", prepare, own_join, library_join},
+    {"write, packet of 44", prepare, own_write, library_write},
+    {"image written, 16 records", prepare_16, own_write_image, library_write_image},
+    {"image loaded, 16 records", prepare_16, own_load_image, library_load_image},
+    {"address list counted, 51 entries", prepare, own_address_count, library_address_count},
+    {"from Rattle: Sync and Follow_Up, lent", prepare, own_pair, lent_from_rattle},
+    {"from Rattle: the same, table by value", prepare, own_pair, by_value},
+};
+enum { TIMED = sizeof timed / sizeof *timed };
+
+static double now(void) {
+    struct timespec time;
+    clock_gettime(CLOCK_MONOTONIC, &time);
+    return (double)time.tv_sec * 1e9 + (double)time.tv_nsec;
+}
+
+/* The nanoseconds of one call, if they are fewer than the least so far. */
+static void run(const struct timed *it, uint64_t (*loop)(uint64_t), double *least) {
+    uint64_t wrong;
+    double start, each;
+    it->prepare();
+    wrong = loop(CALLS / 50);
+    start = now();
+    wrong += loop(CALLS);
+    each = (now() - start) / CALLS;
+    if (wrong != 0) {
+        printf("%s: %lu calls answered otherwise\n", it->name, (unsigned long)wrong);
+        exit(1);
+    }
+    if (*least == 0 || each < *least) *least = each;
+}
+
+/* The last of the processors that the program may use. */
+static void pin(void) {
+    cpu_set_t set;
+    size_t i, last = 0;
+    if (sched_getaffinity(0, sizeof set, &set) != 0) return;
+    for (i = 0; i < CPU_SETSIZE; i++) if (CPU_ISSET(i, &set)) last = i;
+    CPU_ZERO(&set);
+    CPU_SET(last, &set);
+    if (sched_setaffinity(0, sizeof set, &set) != 0) perror("not pinned to a processor");
+}
+
+int main(int argc, char **argv) {
+    int rounds = argc > 1 ? atoi(argv[1]) : ROUNDS;
+    static double plain[TIMED], library[TIMED];
+    int round, i;
+    pin();
+    for (round = 0; round < rounds; round++) {
+        for (i = 0; i < TIMED; i++) {
+            if (round % 2 == 0) run(&timed[i], timed[i].plain, &plain[i]);
+            run(&timed[i], timed[i].library, &library[i]);
+            if (round % 2 != 0) run(&timed[i], timed[i].plain, &plain[i]);
+        }
+    }
+    printf("%-40s %12s %12s %8s\n", "operation", "plain C, ns", "library, ns", "ratio");
+    for (i = 0; i < TIMED; i++) {
+        printf("%-40s %12.1f %12.1f %8.2f\n", timed[i].name, plain[i], library[i], library[i] / plain[i]);
+    }
+    return 0;
+}

@@ -1,0 +1,197 @@
+/*
+ * The ends of the interface: how the structs lie in memory, strings of no octets, what a refusal leaves, and
+ * what a call may not touch. Exit status 0 if all is as bunpennant.h says.
+ */
+#include "bunpennant.h"
+#include <stdio.h>
+#include <string.h>
+
+static int checked, wrong;
+
+#define CHECK(condition) check(condition, #condition, __LINE__)
+
+static void check(bool holds, const char *condition, int line) {
+    checked++;
+    if (holds) return;
+    printf("limits.c:%d: not so: %s\n", line, condition);
+    wrong = 1;
+}
+
+enum { CANARY = 0xA7 };
+
+/* Whether memory still holds nothing but the octets that were put there before the call. */
+static bool as_it_came(const void *memory, size_t size) {
+    const uint8_t *at = (const uint8_t *)memory;
+    size_t i;
+    for (i = 0; i < size; i++) if (at[i] != CANARY) return false;
+    return true;
+}
+
+#define LAY(place) memset(&(place), CANARY, sizeof(place))
+#define STAYED(place) as_it_came(&(place), sizeof(place))
+#define SIZE_OF(type) sizeof(struct type)
+
+/* A Sync of 36 octets, S set, of type 3. */
+static const uint8_t octets[36] = {
+    0x10, 0, 0, 15, 0, 0, 0, 0, 0, 0, 0, 0, 0, 3, 0, 20,
+    0, 1, 0, 20, 0x80, 0, 0, 0, 1, 2, 3, 4, 5, 6, 7, 8, 0, 9, 1, 2};
+static const struct rtm_stamp entry = {10, 999999000}, leave = {11, 500}, bad = {11, 1000000000};
+
+static uint8_t *message_of(uint8_t *message, uint8_t flags, uint8_t ptp_type) {
+    memcpy(message, octets, sizeof octets);
+    message[20] = flags;
+    message[23] = ptp_type;
+    return message;
+}
+
+static void layout(void) {
+    CHECK(SIZE_OF(rtm_stamp) == 8 && offsetof(struct rtm_stamp, part) == 4);
+    CHECK(SIZE_OF(rtm_fields) == 32 && offsetof(struct rtm_fields, pad) == 0);
+    CHECK(offsetof(struct rtm_fields, clock) == 8 && offsetof(struct rtm_fields, type) == 16);
+    CHECK(offsetof(struct rtm_fields, length) == 18 && offsetof(struct rtm_fields, port) == 20);
+    CHECK(offsetof(struct rtm_fields, sequence) == 22 && offsetof(struct rtm_fields, two_step) == 24);
+    CHECK(offsetof(struct rtm_fields, ptp_type) == 25 && offsetof(struct rtm_fields, reserved) == 26);
+    CHECK(SIZE_OF(rtm_part) == 16 && offsetof(struct rtm_part, length) == 8);
+    CHECK(SIZE_OF(rtm_joined) == 32 && offsetof(struct rtm_joined, total) == 0);
+    CHECK(offsetof(struct rtm_joined, message) == 8 && offsetof(struct rtm_joined, packet) == 16);
+    CHECK(SIZE_OF(rtm_slot) == 24 && offsetof(struct rtm_slot, clock) == 0);
+    CHECK(offsetof(struct rtm_slot, wait) == 8 && offsetof(struct rtm_slot, reserved0) == 9);
+    CHECK(offsetof(struct rtm_slot, sequence) == 10 && offsetof(struct rtm_slot, port) == 12);
+    CHECK(offsetof(struct rtm_slot, kind) == 14 && offsetof(struct rtm_slot, reserved1) == 15);
+    CHECK(offsetof(struct rtm_slot, residence) == 16);
+    CHECK(SIZE_OF(rtm_table) == 512 && offsetof(struct rtm_table, number) == 0);
+    CHECK(offsetof(struct rtm_table, reserved) == 1 && offsetof(struct rtm_table, slot) == 128);
+}
+
+/* What each member is, seen from the octets of a message and of a table. */
+static void members(void) {
+    uint8_t message[36], output[36];
+    struct rtm_fields fields;
+    struct rtm_table table;
+    LAY(fields);
+    CHECK(rtm_read(message_of(message, 0x80, 8), 36, &fields) == 0);
+    CHECK(fields.pad == 0 && fields.clock == UINT64_C(0x0102030405060708) && fields.type == 3);
+    CHECK(fields.length == 20 && fields.port == 9 && fields.sequence == 0x0102);
+    CHECK(fields.two_step && fields.ptp_type == 8 && STAYED(fields.reserved));
+    memset(&table, 0, sizeof table);
+    message_of(message, 0, 1);
+    CHECK(rtm_two_step(&table, message, 36, output, 36, RTM_PTP, entry, leave) == RTM_WAITING);
+    CHECK(table.number == 1 && table.slot[0].wait == 3 && table.slot[0].kind == 1);
+    CHECK(table.slot[0].clock == UINT64_C(0x0102030405060708) && table.slot[0].port == 9);
+    CHECK(table.slot[0].sequence == 0x0102 && table.slot[0].residence == 1500 * 65536);
+    CHECK(table.slot[0].reserved0 == 0 && table.slot[0].reserved1 == 0);
+}
+
+/* NULL for every string, with a length of 0. */
+static void no_octets(void) {
+    uint8_t message[36], output[64];
+    struct rtm_fields fields;
+    struct rtm_joined joined;
+    struct rtm_table table;
+    struct rtm_part part;
+    size_t size = 99;
+    rtm_new(&table);
+    memset(&fields, 0, sizeof fields);
+    CHECK(rtm_read(NULL, 0, &fields) == RTM_TOO_SHORT);
+    CHECK(rtm_carried(NULL, 0, &part) == RTM_TOO_SHORT);
+    fields.type = 5;
+    CHECK(rtm_write(&fields, NULL, 0, NULL, 0, &size) == RTM_OUTPUT_TOO_SMALL && size == 99);
+    CHECK(rtm_write(&fields, NULL, 0, output, sizeof output, &size) == 0 && size == 16);
+    CHECK(rtm_one_step(NULL, 0, RTM_PTP, entry, leave) == RTM_TOO_SHORT);
+    CHECK(rtm_two_step(&table, NULL, 0, NULL, 0, RTM_PTP, entry, leave) == RTM_TOO_SHORT);
+    message_of(message, 0, 0);
+    CHECK(rtm_two_step(&table, message, 36, NULL, 0, RTM_PTP, entry, leave) == RTM_OUTPUT_TOO_SMALL);
+    message_of(message, 0x80, 0);
+    CHECK(rtm_two_step(&table, message, 36, NULL, 0, RTM_PTP, entry, leave) == RTM_WAITING);
+    CHECK(rtm_write_image(&table, NULL, 0, &size) == RTM_OUTPUT_TOO_SMALL);
+    CHECK(rtm_load_image(&table, NULL, 0) == RTM_IMAGE && rtm_waiting(&table) == 1);
+    CHECK(rtm_join(NULL, 0, NULL, 0, &joined) == RTM_TOO_SHORT);
+    CHECK(rtm_join(message, 36, NULL, 0, &joined) == RTM_TOO_SHORT);
+    CHECK(rtm_address_count(NULL, 0, &size) == 0 && size == 0);
+    CHECK(rtm_address_entry(NULL, 0, 0, &part) == RTM_NO_ENTRY);
+}
+
+/* A refusal leaves the places for an answer, the output, the message and the table as they came. */
+static void refusals(void) {
+    uint8_t message[36], output[40];
+    struct rtm_fields fields, sound;
+    struct rtm_joined joined;
+    struct rtm_table table;
+    struct rtm_part part;
+    uint64_t units;
+    size_t size;
+    LAY(fields), LAY(joined), LAY(table), LAY(part), LAY(units), LAY(size), LAY(output), LAY(message);
+    CHECK(rtm_read(message, 36, &fields) == RTM_NOT_RTM && STAYED(fields));
+    CHECK(rtm_carried(message, 36, &part) == RTM_NOT_RTM && STAYED(part));
+    CHECK(rtm_write(&fields, message, 36, output, 40, &size) == RTM_TYPE && STAYED(output) && STAYED(size));
+    CHECK(rtm_read(octets, 36, &sound) == 0);
+    CHECK(rtm_write(&sound, message, 36, output, 40, &size) == RTM_OUTPUT_TOO_SMALL);
+    CHECK(STAYED(output) && STAYED(size));
+    CHECK(rtm_residence(RTM_PTP, entry, bad, &units) == RTM_INVALID_STAMP && STAYED(units));
+    CHECK(rtm_residence(RTM_PTP, leave, entry, &units) == RTM_TOO_LONG_RESIDENCE && STAYED(units));
+    CHECK(rtm_residence(RTM_NTP, leave, entry, &units) == RTM_TOO_LONG_RESIDENCE && STAYED(units));
+    CHECK(rtm_one_step(message, 36, RTM_PTP, entry, leave) == RTM_NOT_RTM && STAYED(message));
+    CHECK(rtm_two_step(&table, message, 36, output, 40, RTM_PTP, entry, leave) == RTM_NOT_RTM);
+    CHECK(STAYED(table) && STAYED(message) && STAYED(output));
+    CHECK(rtm_write_image(&table, output, 40, &size) == RTM_IMAGE && STAYED(output) && STAYED(size));
+    CHECK(rtm_load_image(&table, message, 36) == RTM_IMAGE && STAYED(table));
+    CHECK(rtm_join(octets, 36, message, 36, &joined) == RTM_NOT_RTM && STAYED(joined));
+    CHECK(rtm_join(octets, 36, octets, 36, &joined) == RTM_NOT_A_PAIR && STAYED(joined));
+    CHECK(rtm_address_count(message, 36, &size) == RTM_BAD_ENTRY && STAYED(size));
+    CHECK(rtm_address_entry(message, 36, 0, &part) == RTM_BAD_ENTRY && STAYED(part));
+}
+
+/* Refusals of a two-step node for a message that can be read. */
+static void refused_messages(void) {
+    uint8_t message[36], before[36], output[36];
+    struct rtm_table table;
+    LAY(table), LAY(output);
+    memcpy(before, message_of(message, 0, 0), sizeof before);
+    CHECK(rtm_two_step(&table, message, 36, output, 35, RTM_PTP, entry, leave) == RTM_OUTPUT_TOO_SMALL);
+    CHECK(rtm_two_step(&table, message, 36, output, 36, RTM_PTP, entry, bad) == RTM_INVALID_STAMP);
+    CHECK(memcmp(message, before, sizeof before) == 0 && STAYED(table) && STAYED(output));
+    memcpy(before, message_of(message, 0x80, 0), sizeof before);
+    CHECK(rtm_two_step(&table, message, 36, output, 36, RTM_PTP, entry, leave) == RTM_NO_EMPTY_SLOT);
+    CHECK(memcmp(message, before, sizeof before) == 0 && STAYED(table) && STAYED(output));
+    memcpy(before, message_of(message, 0x80, 8), sizeof before);
+    CHECK(rtm_two_step(&table, message, 36, output, 36, RTM_PTP, entry, leave) == RTM_NO_RECORD);
+    CHECK(memcmp(message, before, sizeof before) == 0 && STAYED(table) && STAYED(output));
+}
+
+/* Octets beyond what is written, and what is reserved. */
+static void beyond(void) {
+    uint8_t message[36], output[400];
+    struct rtm_fields fields;
+    struct rtm_table table;
+    size_t size = 0;
+    LAY(output), LAY(table), LAY(fields);
+    memset(table.slot, 0, sizeof table.slot);
+    message_of(message, 0, 0);
+    CHECK(rtm_two_step(&table, message, 36, output, sizeof output, RTM_PTP, entry, leave) == RTM_CREATED);
+    CHECK(message[20] == 0x80 && as_it_came(output + RTM_CREATED_SIZE, sizeof output - RTM_CREATED_SIZE));
+    CHECK(rtm_two_step(&table, message, 36, output, sizeof output, RTM_NTP, entry, leave) == RTM_WAITING);
+    CHECK(table.number == 16 && STAYED(table.reserved));
+    LAY(output);
+    CHECK(rtm_write_image(&table, output, sizeof output, &size) == 0 && size == 24);
+    CHECK(as_it_came(output + size, sizeof output - size));
+    CHECK(rtm_load_image(&table, output, size) == 0 && table.number == 1 && STAYED(table.reserved));
+    CHECK(rtm_tick(&table) == 0 && rtm_tick(&table) == 0 && rtm_tick(&table) == 1);
+    CHECK(table.number == 0 && STAYED(table.reserved));
+    memcpy(message, "\x10\0\0\x0F\0\0\0\0\0\0\0\0\0\x05\0\0", 16);
+    CHECK(rtm_read(message, 16, &fields) == 0 && fields.type == 5 && fields.pad == 0);
+    CHECK(STAYED(fields.clock) && STAYED(fields.length) && STAYED(fields.port) && STAYED(fields.sequence));
+    CHECK(as_it_came(&fields.two_step, 1) && STAYED(fields.ptp_type) && STAYED(fields.reserved));
+    rtm_new(&table);
+    CHECK(table.reserved[0] == 0 && table.reserved[126] == 0);
+}
+
+int main(void) {
+    layout();
+    members();
+    no_octets();
+    refusals();
+    refused_messages();
+    beyond();
+    printf("limits: %d checked\n", checked);
+    return wrong;
+}

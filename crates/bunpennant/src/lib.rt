@@ -1,0 +1,24 @@
+// The library for C: the functions that c/include/bunpennant.h declares. Answers are numbers, a struct
+// is lent as the numbers of which its memory is made (specs/C.antt), and the table as its words. Each
+// function makes one call of the library.
+mod addresses;
+mod fields;
+mod joins;
+mod messages;
+mod nodes;
+mod tables;
+
+pub use addresses::rtm_address_count;
+pub use addresses::rtm_address_entry;
+pub use joins::rtm_join;
+pub use messages::rtm_carried;
+pub use messages::rtm_read;
+pub use messages::rtm_write;
+pub use nodes::rtm_one_step;
+pub use nodes::rtm_residence;
+pub use nodes::rtm_two_step;
+pub use tables::rtm_load_image;
+pub use tables::rtm_new;
+pub use tables::rtm_tick;
+pub use tables::rtm_waiting;
+pub use tables::rtm_write_image;
