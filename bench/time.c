@@ -6,13 +6,14 @@
  */
 #define _GNU_SOURCE
 #include "plain.h"
+#include <alloca.h>
 #include <sched.h>
 #include <stdio.h>
 #include <stdlib.h>
 #include <string.h>
 #include <time.h>
 
-enum { MESSAGE = 36, PACKET = 44, ENTRIES = 51, ENTRY = 20, CALLS = 10000, ROUNDS = 201, TICKS = 250 };
+enum { MESSAGE = 36, PACKET = 44, ENTRIES = 51, ENTRY = 20, CALLS = 10000, ROUNDS = 201, TICKS = 250, PAGE = 4096 };
 
 /* From libby_value.a: `count` pairs at a two-step node, called from Rattle code with the table by value or
    lent. They answer how many pairs went well. */
@@ -170,8 +171,22 @@ static uint64_t own_tick(uint64_t calls) {
     return wrong;
 }
 
-static uint64_t by_value(uint64_t calls) {
+/* By value the tables lie on the stack, and a copy over the end of a page takes longer. So the stack is put so
+   many octets past the start of a page, wherever it began. */
+static uint64_t by_value_at(uintptr_t past, uint64_t calls) {
+    uint8_t *here = alloca(16);
+    uint8_t *moved = alloca(((uintptr_t)here - past) % PAGE + 16);
+    *(volatile uint8_t *)moved = 0;
     return calls - bench_pairs(sync, MESSAGE, follow_up, MESSAGE, output, sizeof output, calls);
+}
+
+/* Both places were found by trying every 128th: it is slow from about 128 to 1,024. */
+static uint64_t by_value(uint64_t calls) {
+    return by_value_at(2048, calls);
+}
+
+static uint64_t by_value_across(uint64_t calls) {
+    return by_value_at(512, calls);
 }
 
 static uint64_t lent_from_rattle(uint64_t calls) {
@@ -198,6 +213,7 @@ static const struct timed {
     {"address list counted, 51 entries", prepare, own_address_count, library_address_count},
     {"from Rattle: Sync and Follow_Up, lent", prepare, own_pair, lent_from_rattle},
     {"from Rattle: the same, table by value", prepare, own_pair, by_value},
+    {"  where a copy crosses a page", prepare, own_pair, by_value_across},
 };
 enum { TIMED = sizeof timed / sizeof *timed };
 

@@ -12,7 +12,7 @@ use Rattle.refusal.specs.Answer.{Answer, value, refused, refuse, andThen, refus
 use Rattle.refusal.proofs.Answers.{passes, refused-by, then-passed}
 use Rattle.message.specs.declared.fields.Header.{Header}
 use Rattle.message.specs.declared.fields.SubTlv.{SubTlv}
-use Rattle.message.specs.Read.{Message, plain, ptp, isRtm, version, header, lengthField, messageValue, isType, isPtp, headerOf, isSubTlv, subTlv, subTlvOf, messageOf, readOf, contentOf, packetAt}
+use Rattle.message.specs.Read.{Message, plain, ptp, isRtm, version, header, lengthField, messageValue, isType, isPtp, headerOf, isSubTlv, subTlv, subTlvOf, messageOf, readOf, contentOf}
 use Rattle.message.proofs.Sound.{header-sound}
 use Rattle.message.proofs.Accepted.{known-types, ptp-types, plain-types}
 
@@ -126,14 +126,3 @@ content-plain s p = rw p
 -- and with types 2 to 4 the sub-TLV's 20 octets are there
 pub value-whole : (s : List ℕ) → refusalIn (readOf s) ≡ 0 → isPtp (header s .«message_type») ≡ true → 20 ≤ length (messageValue s)
 value-whole s e p = sub-tlv-whole (messageValue s) (sub-tlv-readable s e p)
-
-pub message-whole : (s : List ℕ) → refusalIn (readOf s) ≡ 0 → isPtp (header s .«message_type») ≡ true → 36 ≤ length s
-message-whole s e p = omega (arith, length-drop 16 s, value-whole s e p)
-
--- the carried packet of a readable message starts within it
-pub packet-within : (s : List ℕ) → refusalIn (readOf s) ≡ 0 → packetAt (length s) (readOf s) ≤ length s
-packet-within s e = by-type (isPtp (header s .«message_type»)) refl
-  where
-    by-type : (b : Bool) → isPtp (header s .«message_type») ≡ b → packetAt (length s) (readOf s) ≤ length s
-    by-type true p = omega (arith, ap (packetAt (length s)) (readable s e ∙ ap value (content-ptp s p)), message-whole s e p)
-    by-type false p = omega (arith, ap (packetAt (length s)) (readable s e ∙ ap value (content-plain s p)), header-sound s (header s) (header-passed s (header-readable s e)) .0 .long)

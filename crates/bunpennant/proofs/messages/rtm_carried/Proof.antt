@@ -1,14 +1,16 @@
 -- `rtm_carried` meets its contract: the packet goes from its offset to the end.
 -- Assumes nothing.
 use Prim.Native.Nat.{ℕ, _-_, _≤_}
-use mathlib.Core.Path.{_≡_, sym, ap, _∙_}
+use mathlib.Core.Path.{_≡_, refl, sym, ap, _∙_}
+use mathlib.Core.Bool.{Bool, true, false}
 use mathlib.Core.List.{List}
 use native.Mathlib.Omega.{arith}
 use lib.ListN.{length, set, length-drop}
 use Rattle.refusal.specs.Answer.{Answer, value, andThen, refusalIn}
 use Rattle.refusal.proofs.Answers.{refused-by}
-use Rattle.message.specs.Read.{Message, readOf, packetAt, carriedOf}
-use Rattle.message.proofs.Content.{readable, packet-within}
+use Rattle.message.specs.Read.{Message, header, isPtp, readOf, packetAt, carriedOf}
+use Rattle.message.proofs.Sound.{header-sound}
+use Rattle.message.proofs.Content.{header-passed, header-readable, readable, content-ptp, content-plain, value-whole}
 use Rattle.bunpennant.specs.C.{Told, told, tell, putPart, packetPart}
 use borrow.Author.Needs.{needs}
 use Rattle.bunpennant.proofs.messages.rtm_carried.Statement.{statement}
@@ -16,6 +18,14 @@ use Rattle.bunpennant.proofs.messages.rtm_carried.Tie as tie
 
 abbrev telling : List ℕ → List ℕ → Answer Message → Told (List ℕ)
 telling w s a = tell w (andThen a (λ m. value (packetPart w s)))
+
+-- the packet of a readable message starts within it
+packet-within : (s : List ℕ) → refusalIn (readOf s) ≡ 0 → packetAt (length s) (readOf s) ≤ length s
+packet-within s e = by-type (isPtp (header s .«message_type»)) refl
+  where
+    by-type : (b : Bool) → isPtp (header s .«message_type») ≡ b → packetAt (length s) (readOf s) ≤ length s
+    by-type true p = omega (arith, ap (packetAt (length s)) (readable s e ∙ ap value (content-ptp s p)), length-drop 16 s, value-whole s e p)
+    by-type false p = omega (arith, ap (packetAt (length s)) (readable s e ∙ ap value (content-plain s p)), header-sound s (header s) (header-passed s (header-readable s e)) .0 .long)
 
 -- how long the packet is
 rest : (s : List ℕ) → refusalIn (readOf s) ≡ 0 → (length (carriedOf s) ≤ length s) × (length s - length (carriedOf s) ≡ packetAt (length s) (readOf s))
