@@ -18,14 +18,14 @@ use Rattle.records.specs.Node.{Request, nothing, add, collect}
 use Rattle.records.specs.Number.{oneMore, fewer}
 use Rattle.records.proofs.Numbers.{records-few}
 use Rattle.words.specs.Words.{decoded, slotAt, slotsOf, numberOf, packedOf, putSlot, withNumber, addedWords, collectedWords, agedWords, ageSlot, agedTo, filledTo, wordsAfter, loadedWords}
-use Rattle.words.specs.Meaning.{IdentityFits, RequestFits, LoadFits, HeadStays, SlotStays, Unchanged, ReservedStays}
+use Rattle.words.specs.Meaning.{IdentityFits, RequestFits, LoadFits, HeadKept, SlotKept, Unchanged, ReservedKept}
 use Rattle.words.proofs.Fields.{decoded-packed, decoded-zeros}
 use Rattle.words.proofs.Places.{sixteen, slot-at, put-kept, put-same, length-put, number-low, more-low, fewer-low, within}
 use Rattle.words.proofs.Ticks.{aged-head, age-kept, aged-later, earlier-slot, length-aged}
 use Rattle.words.proofs.Fills.{length-filled}
 
 -- another number leaves the head, where it was left before
-head-numbered : (w v : List ℕ) (n : ℕ) → length v ≡ 64 → n < 256 → ((j : ℕ) → j < 16 → getD v j 0 ≡ getD w j 0) → HeadStays w (withNumber v n)
+head-numbered : (w v : List ℕ) (n : ℕ) → length v ≡ 64 → n < 256 → ((j : ℕ) → j < 16 → getD v j 0 ≡ getD w j 0) → HeadKept w (withNumber v n)
 unfolding withNumber
 head-numbered w v n l h f =
     record {
@@ -38,7 +38,7 @@ later-word : (v : List ℕ) (n j : ℕ) → 16 ≤ j → getD (withNumber v n) j
 unfolding withNumber
 later-word v n j h = getD-set-other v 0 j _ 0 (λ z. omega arith)
 
-slot-numbered : (w v : List ℕ) (n k : ℕ) → SlotStays w v k → SlotStays w (withNumber v n) k
+slot-numbered : (w v : List ℕ) (n k : ℕ) → SlotKept w v k → SlotKept w (withNumber v n) k
 slot-numbered w v n k s =
     record {
       clock = later-word v n (k * 3 + 16) (omega arith) ∙ s .clock;
@@ -73,7 +73,7 @@ module _ (w : List ℕ) (l : length w ≡ 64) (k c b u n : ℕ) (h : k < 16) (m 
     λ j i g. slot-numbered w (putSlot w k c b u) n j (other j g (eqb j k) refl),
   )
     where
-      other : (j : ℕ) → empty (slotAt (withNumber (putSlot w k c b u) n) j) ≡ empty (slotAt w j) → (z : Bool) → eqb j k ≡ z → SlotStays w (putSlot w k c b u) j
+      other : (j : ℕ) → empty (slotAt (withNumber (putSlot w k c b u) n) j) ≡ empty (slotAt w j) → (z : Bool) → eqb j k ≡ z → SlotKept w (putSlot w k c b u) j
       other j g true z =
           let j-is : j ≡ k = eqb-true j k z in
           let before : empty (slotAt w j) ≡ x = ap (λ (i : ℕ). empty (slotAt w i)) j-is ∙ e in
@@ -160,8 +160,8 @@ module _ (w : List ℕ) (l : length w ≡ 64) (k : ℕ) (h : k < 16) where
       )
 
   -- so a slot whose wait is not 1 keeps all but that wait
-  aged-stays : (getD w (k * 3 + 17) 0 % 256 ≡ 1 → ⊥) → SlotStays w (agedTo 16 w) k
-  aged-stays o =
+  aged-kept : (getD w (k * 3 + 17) 0 % 256 ≡ 1 → ⊥) → SlotKept w (agedTo 16 w) k
+  aged-kept o =
       let e = own (k * 3 + 17) (omega arith) in
       let t = turn (word (k * 3 + 17) % 256) refl (λ z. o (ap (λ (i : ℕ). i % 256) (sym e) ∙ z)) in
       record {
@@ -188,9 +188,9 @@ after-tick w l =
       λ k h e. slot-numbered w v n k (go k h (sym (ap empty (same-slot v n k)) ∙ e) (eqb (getD w (k * 3 + 17) 0 % 256) 1) refl),
     )
   where
-    go : (k : ℕ) → k < 16 → empty (slotAt (agedTo 16 w) k) ≡ empty (slotAt w k) → (b : Bool) → eqb (getD w (k * 3 + 17) 0 % 256) 1 ≡ b → SlotStays w (agedTo 16 w) k
+    go : (k : ℕ) → k < 16 → empty (slotAt (agedTo 16 w) k) ≡ empty (slotAt w k) → (b : Bool) → eqb (getD w (k * 3 + 17) 0 % 256) 1 ≡ b → SlotKept w (agedTo 16 w) k
     go k h e true p = absurd (emptied-slot w l k h (eqb-true (getD w (k * 3 + 17) 0 % 256) 1 p) e)
-    go k h e false p = aged-stays w l k h (eqb-false (getD w (k * 3 + 17) 0 % 256) 1 p)
+    go k h e false p = aged-kept w l k h (eqb-false (getD w (k * 3 + 17) 0 % 256) 1 p)
 
 -- a load
 filled-head : (n : ℕ) (t : Slots) (w : List ℕ) (j : ℕ) → j < 16 → getD (filledTo n t w) j 0 ≡ getD w j 0
@@ -199,15 +199,15 @@ filled-head (suc n) t w j h =
     let s = getD t n zeros in
     put-kept (filledTo n t w) n (s .clock) (packedOf s) (s .residence) j (λ z. omega arith) (λ z. omega arith) (λ z. omega arith) ∙ filled-head n t w j h
 
-pub reserved-stays : ReservedStays
-reserved-stays = (after-request, after-tick, after-load)
+pub reserved-kept : ReservedKept
+reserved-kept = (after-request, after-tick, after-load)
   where
     after-request : (r : Request) (w : List ℕ) → length w ≡ 64 → RequestFits r → Unchanged w (wordsAfter r w)
     after-request nothing w l f = untouched w
     after-request (add q u) w l f = after-add w l q f u (find q (slotsOf w)) (vacant (slotsOf w)) refl
     after-request (collect q) w l f = after-collect w l q f (find q (slotsOf w)) refl
 
-    after-load : (a : Answer Slots) (w : List ℕ) → length w ≡ 64 → LoadFits a → HeadStays w (loadedWords w a)
+    after-load : (a : Answer Slots) (w : List ℕ) → length w ≡ 64 → LoadFits a → HeadKept w (loadedWords w a)
     after-load (value t) w l f =
         head-numbered w (filledTo 16 t w) (recordsIn t) (length-filled 16 t w ∙ l) (omega (arith, records-few t, f .0)) (λ j h. filled-head 16 t w j h)
     after-load (refused n) w l f = untouched w .0

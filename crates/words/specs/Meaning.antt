@@ -45,22 +45,22 @@ LoadMeans =
     → (slotsOf (loadedWords w a) ≡ takenOver (slotsOf w) a) × (numberOf (loadedWords w a) ≡ recounted (numberOf w) a)
 
 -- Words w and v afterwards. The reserved words of the head stay, and the reserved bits of word 0
-pub record HeadStays (w v : List ℕ) : Type 0 where
+pub record HeadKept (w v : List ℕ) : Type 0 where
   pub words : (j : ℕ) → 1 ≤ j → j < 16 → getD v j 0 ≡ getD w j 0
   pub bits : getD v 0 0 / 256 ≡ getD w 0 0 / 256
 
 -- of slot k every bit stays but those of the wait
-pub record SlotStays (w v : List ℕ) (k : ℕ) : Type 0 where
+pub record SlotKept (w v : List ℕ) (k : ℕ) : Type 0 where
   pub clock : getD v (k * 3 + 16) 0 ≡ getD w (k * 3 + 16) 0
   pub packed : getD v (k * 3 + 17) 0 / 256 ≡ getD w (k * 3 + 17) 0 / 256
   pub residence : getD v (k * 3 + 18) 0 ≡ getD w (k * 3 + 18) 0
 
 -- so it is with every slot that is neither emptied nor filled
 abbrev pub Unchanged : List ℕ → List ℕ → Type 0
-Unchanged w v = HeadStays w v × ((k : ℕ) → k < 16 → empty (slotAt v k) ≡ empty (slotAt w k) → SlotStays w v k)
+Unchanged w v = HeadKept w v × ((k : ℕ) → k < 16 → empty (slotAt v k) ≡ empty (slotAt w k) → SlotKept w v k)
 
-abbrev pub ReservedStays : Type 0
-ReservedStays =
+abbrev pub ReservedKept : Type 0
+ReservedKept =
     ((r : Request) (w : List ℕ) → length w ≡ 64 → RequestFits r → Unchanged w (wordsAfter r w))
     × ((w : List ℕ) → length w ≡ 64 → Unchanged w (tickWords w))
-    × ((a : Answer Slots) (w : List ℕ) → length w ≡ 64 → LoadFits a → HeadStays w (loadedWords w a))
+    × ((a : Answer Slots) (w : List ℕ) → length w ≡ 64 → LoadFits a → HeadKept w (loadedWords w a))
