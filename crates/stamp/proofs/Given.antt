@@ -19,7 +19,7 @@ use Rattle.stamp.specs.Ptp.{elapsed, nanosecondsOf}
 use Rattle.stamp.specs.Ntp as ntp-specs
 use Rattle.stamp.specs.Stamps.{residenceOf, TooLongAlone, KeepsPromise}
 use Rattle.stamp.specs.Rounding.{NotRounded, RoundedDown}
-use Rattle.stamp.proofs.Cycle.{accepted}
+use Rattle.stamp.proofs.Accepted.{accepted}
 
 -- the refusals
 same-number : {m n : ℕ} → _≡_ {A = Answer ℕ} (refused m) (refused n) → m ≡ n

@@ -3,6 +3,7 @@ use residence::Residence;
 ghost use mathlib.Core.Path.{_≡_};
 ghost use Rattle.residence.specs.Residence.{residenceAnswer};
 ghost use Rattle.stamp.specs.Ptp.{secondsDifference, nanosecondsOf, residenceOf};
+ghost use Rattle.stamp.specs.Formula.{Valid, secondsPart, nanosecondsPart};
 ghost use Rattle.stamp.specs.Answers.{elapsedAnswer};
 
 // A PTP truncated timestamp. Nanoseconds over 999,999,999 are no time.
@@ -27,6 +28,27 @@ pub fn seconds_between(entry: u32, exit: u32) -> u32
     std::num::wrapping_sub_u32(exit, entry)
 }
 
+// The exit less the entry, in seconds and nanoseconds.
+struct Difference {
+    seconds: u32,
+    nanoseconds: u32,
+}
+
+// The difference of stamps that are times, by the formula of the hardware (document 02, W-207): with
+// a borrow exactly where the exit's nanoseconds are below the entry's.
+fn difference_between(entry: Stamp, exit: Stamp) -> Difference
+    requires { ⌜ Valid entry × Valid exit ⌝ }
+    ensures { λ r. ⌜ (r .seconds ≡ secondsPart entry exit) × (r .nanoseconds ≡ nanosecondsPart entry exit) ⌝ }
+{
+    let borrow = (exit.nanoseconds < entry.nanoseconds) as u32;
+    let seconds = std::num::wrapping_sub_u32(seconds_between(entry.seconds, exit.seconds), borrow);
+    let nanoseconds = exit.nanoseconds + 1_000_000_000 * borrow - entry.nanoseconds;
+    Difference {
+        seconds,
+        nanoseconds,
+    }
+}
+
 // The residence in nanoseconds.
 pub fn nanoseconds_between(entry: Stamp, exit: Stamp) -> Elapsed
     ensures { λ r. ⌜ elapsedAnswer r ≡ nanosecondsOf entry exit ⌝ }
@@ -37,14 +59,8 @@ pub fn nanoseconds_between(entry: Stamp, exit: Stamp) -> Elapsed
     if 999_999_999 < exit.nanoseconds {
         return Elapsed::InvalidStamp;
     }
-    let seconds = seconds_between(entry.seconds, exit.seconds) as u64;
-    let later = seconds * 1_000_000_000 + (exit.nanoseconds as u64);
-    let earlier = entry.nanoseconds as u64;
-    // The exit lies before the entry, in the same second: all but a whole cycle has passed.
-    if later < earlier {
-        return Elapsed::TooLong;
-    }
-    let elapsed = later - earlier;
+    let difference = difference_between(entry, exit);
+    let elapsed = difference.seconds as u64 * 1_000_000_000 + difference.nanoseconds as u64;
     if 3_999_999_999 < elapsed {
         return Elapsed::TooLong;
     }

@@ -1,29 +1,41 @@
--- `nanoseconds_between` meets its contract: `parts` says the definition's difference by the code's numbers, and the tests on the way decide its modulo and the answer.
+-- `nanoseconds_between` meets its contract: by the formula its number is document 01's residence, and the tests on the way decide the answer.
 -- Assumes nothing.
 use native.Mathlib.Omega.{arith}
-use Prim.Native.Nat.{_+_, _*_, _-_, _%_}
-use mathlib.Core.Path.{_≡_, ap}
+use Prim.Native.Nat.{_+_, _*_}
+use mathlib.Core.Path.{_≡_, ap, _∙_}
 use mathlib.Core.Bool.{false}
 use lib.Dec.{ltb}
 use borrow.Author.Tests.{lt-ltb, le-ltb}
 use Rattle.refusal.specs.Answer.{value}
 use Rattle.stamp.specs.Ptp.{elapsed}
-use Rattle.stamp.proofs.Cycle.{by-parts}
+use Rattle.stamp.specs.Formula.{Valid}
+use Rattle.stamp.proofs.Formula.{one-formula}
 use borrow.Author.Needs.{needs}
 use Rattle.stamp.proofs.ptp.nanoseconds_between.Statement.{statement}
 use Rattle.stamp.proofs.ptp.nanoseconds_between.Tie as tie
 
--- both stamps are times
+-- behind both tests the stamps are valid
+valid : (c : tie.Else2) → Valid (c .before .before .before .before .args .entry) × Valid (c .before .before .before .before .args .exit)
+valid c =
+    let entry = c .before .before .if1 .left in
+    let exit = c .if2 .left in
+    (record { seconds = omega arith; nanoseconds = entry }, record { seconds = omega arith; nanoseconds = exit })
+
+-- so that 9 does not refuse them
 entry-time : (c : tie.Else2) → ltb 999999999 (c .before .before .before .before .args .entry .nanoseconds) ≡ false
-entry-time c = le-ltb 999999999 (c .before .before .before .before .args .entry .nanoseconds) (c .before .before .if1 .left)
+entry-time c = le-ltb 999999999 (c .before .before .before .before .args .entry .nanoseconds) (valid c .0 .nanoseconds)
 
 exit-time : (c : tie.Else2) → ltb 999999999 (c .before .before .before .before .args .exit .nanoseconds) ≡ false
-exit-time c = le-ltb 999999999 (c .before .before .before .before .args .exit .nanoseconds) (c .if2 .left)
+exit-time c = le-ltb 999999999 (c .before .before .before .before .args .exit .nanoseconds) (valid c .1 .nanoseconds)
 
-parts : (c : tie.After-seconds-between) → (c .seconds-between .result * 1000000000 + c .before .before .before .before .before .args .exit .nanoseconds + 4294967296000000000 - c .before .before .before .before .before .args .entry .nanoseconds) % 4294967296000000000 ≡ elapsed (c .before .before .before .before .before .args .entry) (c .before .before .before .before .before .args .exit)
-parts c =
+formula :
+    (c : tie.After-difference-between)
+    → c .difference-between .result .seconds * 1000000000 + c .difference-between .result .nanoseconds
+    ≡ elapsed (c .before .before .before .before .before .args .entry) (c .before .before .before .before .before .args .exit)
+formula c =
     let a = c .before .before .before .before .before .args in
-    by-parts (c .seconds-between .result) (a .entry .seconds) (a .entry .nanoseconds) (a .exit .seconds) (a .exit .nanoseconds) (omega arith) (omega arith) (omega arith) (c .seconds-between .ensures)
+    let e = c .difference-between .ensures in
+    (λ i. e .0 i * 1000000000 + e .1 i) ∙ one-formula (a .entry) (a .exit) (valid (c .before) .0) (valid (c .before) .1)
 
 returns : tie.Need-returns
 returns c =
@@ -39,22 +51,15 @@ returns-3 : tie.Need-returns-3
 returns-3 c =
     let p = c .before .before .before in
     let a = p .before .before .before .before .before .args in
-    let d = parts p in
+    let d = formula p in
     simp (entry-time (p .before), exit-time (p .before), lt-ltb 3999999999 (elapsed (a .entry) (a .exit)) (omega arith))
 
 returns-4 : tie.Need-returns-4
 returns-4 c =
-    let p = c .before .before .before .before in
+    let p = c .before .before .before in
     let a = p .before .before .before .before .before .args in
-    let d = parts p in
-    simp (entry-time (p .before), exit-time (p .before), lt-ltb 3999999999 (elapsed (a .entry) (a .exit)) (omega arith))
-
-returns-5 : tie.Need-returns-5
-returns-5 c =
-    let p = c .before .before .before .before in
-    let a = p .before .before .before .before .before .args in
-    let d = parts p in
-    simp (entry-time (p .before), exit-time (p .before), le-ltb 3999999999 (elapsed (a .entry) (a .exit)) (omega arith)) (ap value (omega arith))
+    let d = formula p in
+    simp (entry-time (p .before), exit-time (p .before), le-ltb 3999999999 (elapsed (a .entry) (a .exit)) (omega arith)) (ap value d)
 
 pub nanoseconds-between-spec : {M : Type 1} → statement M
 nanoseconds-between-spec =
@@ -67,7 +72,5 @@ nanoseconds-between-spec =
     (λ c. search needs)
     (λ c. search needs)
     (λ c. search needs)
-    (λ c. search needs)
     returns-3
-    returns-4
-    returns-5)
+    returns-4)

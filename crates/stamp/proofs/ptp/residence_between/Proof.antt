@@ -5,7 +5,7 @@ use mathlib.Core.Path.{sym, ap, _∙_}
 use Prim.Native.Nat.{ℕ, _*_}
 use Rattle.refusal.specs.Answer.{Answer, value, andThen}
 use Rattle.stamp.specs.Answers.{elapsedAnswer}
-use Rattle.stamp.proofs.Cycle.{accepted}
+use Rattle.stamp.proofs.Accepted.{accepted}
 use borrow.Author.Needs.{needs}
 use Rattle.stamp.proofs.ptp.residence_between.Statement.{statement}
 use Rattle.stamp.proofs.ptp.residence_between.Tie as tie

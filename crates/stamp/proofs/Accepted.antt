@@ -1,6 +1,6 @@
--- The difference by seconds and nanoseconds is that of the whole stamps, modulo the cycle; and what is accepted is short.
+-- Nanoseconds that are accepted are those between the stamps, and short.
 -- Assumes nothing.
-use Prim.Native.Nat.{ℕ, _+_, _*_, _-_, _%_, _<_, _≤_, _^_}
+use Prim.Native.Nat.{ℕ, _≤_}
 use mathlib.Core.Path.{_≡_}
 use mathlib.Core.Bool.{_||_}
 use native.Mathlib.Omega.{arith}
@@ -9,14 +9,8 @@ use lib.Dec.{ltb}
 use Rattle.refusal.specs.Answer.{value, refuse}
 use Rattle.refusal.proofs.Answers.{passes, same-value}
 use Rattle.stamp.specs.declared.ptp.Stamp.{Stamp}
-use Rattle.stamp.specs.Ptp.{secondsDifference, cycle, elapsed, nanosecondsOf}
+use Rattle.stamp.specs.Ptp.{elapsed, nanosecondsOf}
 
--- the code's difference, from the seconds' difference s and the nanoseconds x and y
-pub by-parts : (s a x b y : ℕ) → a < 2 ^ 32 → b < 2 ^ 32 → x ≤ 999999999 → s ≡ secondsDifference a b
-    → (s * 1000000000 + y + 4294967296000000000 - x) % 4294967296000000000 ≡ (b * 1000000000 + y + cycle - (a * 1000000000 + x)) % cycle
-by-parts s a x b y ha hb hx e = omega arith
-
--- nanoseconds that are accepted: those between the stamps
 pub accepted : (entry exit : Stamp) (n : ℕ) → nanosecondsOf entry exit ≡ value n → (elapsed entry exit ≡ n) × (n ≤ 3999999999)
 accepted entry exit n e =
     let d = elapsed entry exit in
