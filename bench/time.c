@@ -1,19 +1,15 @@
 /*
- * time [rounds]: times the library and plain C side by side, in one process on one processor. Each figure is
- * the least of many rounds, in which the two take turns. Both make the same calls on the same octets, which
- * are laid out anew before each run; a call that does not answer as it should stops the program. Both stand
- * in other files, so that the compiler cannot leave a call out.
+ * time [rounds]: times the library and plain C side by side. Both make the same calls on the same octets,
+ * which are laid out anew before each run. Both stand in other files, so that the compiler cannot leave a
+ * call out.
  */
-#define _GNU_SOURCE
 #include "plain.h"
+#include "turns.h"
 #include <alloca.h>
-#include <sched.h>
-#include <stdio.h>
 #include <stdlib.h>
 #include <string.h>
-#include <time.h>
 
-enum { MESSAGE = 36, PACKET = 44, ENTRIES = 51, ENTRY = 20, CALLS = 10000, ROUNDS = 201, TICKS = 250, PAGE = 4096 };
+enum { MESSAGE = 36, PACKET = 44, ENTRIES = 51, ENTRY = 20, TICKS = 250, PAGE = 4096 };
 
 /* From libby_value.a: `count` pairs at a two-step node, called from Rattle code with the table by value or
    lent. They answer how many pairs went well. */
@@ -28,6 +24,7 @@ static uint8_t packet[PACKET], output[RTM_LARGEST_MESSAGE], image[RTM_IMAGE_SIZE
 static const struct rtm_stamp entry = {100, 999999000}, leave = {101, 500};
 static struct rtm_fields fields;
 static struct rtm_joined joined;
+static uint64_t units;
 static size_t size;
 static struct rtm_table library_table, library_full;
 static struct plain_table plain_table, plain_full;
@@ -107,6 +104,7 @@ static void prepare_ticks(void) {
     }
 
 LOOP(read, 0, read, sync, MESSAGE, &fields)
+LOOP(residence, 0, residence, RTM_PTP, entry, leave, &units)
 LOOP(one_step_ptp, RTM_UPDATED, one_step, clear, MESSAGE, RTM_PTP, entry, leave)
 LOOP(one_step_ntp, RTM_UPDATED, one_step, clear, MESSAGE, RTM_NTP, entry, leave)
 LOOP(join, 0, join, sync, MESSAGE, follow_up, MESSAGE, &joined)
@@ -193,12 +191,9 @@ static uint64_t lent_from_rattle(uint64_t calls) {
     return calls - bench_pairs_lent(sync, MESSAGE, follow_up, MESSAGE, output, sizeof output, calls);
 }
 
-static const struct timed {
-    const char *name;
-    void (*prepare)(void);
-    uint64_t (*plain)(uint64_t), (*library)(uint64_t);
-} timed[] = {
+static const struct timed rows[] = {
     {"read", prepare, own_read, library_read},
+    {"residence, PTP stamps", prepare, own_residence, library_residence},
     {"one-step, PTP stamps", prepare, own_one_step_ptp, library_one_step_ptp},
     {"one-step, NTP stamps", prepare, own_one_step_ntp, library_one_step_ntp},
     {"Sync and Follow_Up, empty table", prepare, own_pair, library_pair},
@@ -215,56 +210,8 @@ static const struct timed {
     {"from Rattle: the same, table by value", prepare, own_pair, by_value},
     {"  where a copy crosses a page", prepare, own_pair, by_value_across},
 };
-enum { TIMED = sizeof timed / sizeof *timed };
-
-static double now(void) {
-    struct timespec time;
-    clock_gettime(CLOCK_MONOTONIC, &time);
-    return (double)time.tv_sec * 1e9 + (double)time.tv_nsec;
-}
-
-/* The nanoseconds of one call, if they are fewer than the least so far. */
-static void run(const struct timed *it, uint64_t (*loop)(uint64_t), double *least) {
-    uint64_t wrong;
-    double start, each;
-    it->prepare();
-    wrong = loop(CALLS / 50);
-    start = now();
-    wrong += loop(CALLS);
-    each = (now() - start) / CALLS;
-    if (wrong != 0) {
-        printf("%s: %lu calls answered otherwise\n", it->name, (unsigned long)wrong);
-        exit(1);
-    }
-    if (*least == 0 || each < *least) *least = each;
-}
-
-/* The last of the processors that the program may use. */
-static void pin(void) {
-    cpu_set_t set;
-    size_t i, last = 0;
-    if (sched_getaffinity(0, sizeof set, &set) != 0) return;
-    for (i = 0; i < CPU_SETSIZE; i++) if (CPU_ISSET(i, &set)) last = i;
-    CPU_ZERO(&set);
-    CPU_SET(last, &set);
-    if (sched_setaffinity(0, sizeof set, &set) != 0) perror("not pinned to a processor");
-}
 
 int main(int argc, char **argv) {
-    int rounds = argc > 1 ? atoi(argv[1]) : ROUNDS;
-    static double plain[TIMED], library[TIMED];
-    int round, i;
-    pin();
-    for (round = 0; round < rounds; round++) {
-        for (i = 0; i < TIMED; i++) {
-            if (round % 2 == 0) run(&timed[i], timed[i].plain, &plain[i]);
-            run(&timed[i], timed[i].library, &library[i]);
-            if (round % 2 != 0) run(&timed[i], timed[i].plain, &plain[i]);
-        }
-    }
-    printf("%-40s %12s %12s %8s\n", "operation", "plain C, ns", "library, ns", "ratio");
-    for (i = 0; i < TIMED; i++) {
-        printf("%-40s %12.1f %12.1f %8.2f\n", timed[i].name, plain[i], library[i], library[i] / plain[i]);
-    }
+    take_turns(rows, sizeof rows / sizeof *rows, argc > 1 ? atoi(argv[1]) : ROUNDS, "plain C, ns", "library, ns");
     return 0;
 }

@@ -9,7 +9,7 @@ use lib.Dec.{ltb}
 use Rattle.refusal.specs.Answer.{refused}
 use Rattle.stamp.specs.declared.ptp.Stamp.{Stamp}
 use Rattle.stamp.specs.Ptp.{secondsDifference, cycle, elapsed, nanosecondsOf}
-use Rattle.stamp.specs.Formula.{borrowOf, secondsPart, nanosecondsPart, OneFormula}
+use Rattle.stamp.specs.Formula.{borrowOf, secondsPart, nanosecondsPart, Valid, OneFormula}
 
 abbrev at : ℕ → ℕ → Stamp
 at s n = record { seconds = s; nanoseconds = n }
@@ -47,16 +47,28 @@ by-borrow :
     → b < 2 ^ 32
     → x ≤ 999999999
     → y ≤ 999999999
-    → (secondsDifference a b + 2 ^ 32 - cond w 1 0) % 2 ^ 32 * 1000000000 + (y + 1000000000 * cond w 1 0 - x)
-    ≡ (b * 1000000000 + y + cycle - (a * 1000000000 + x)) % cycle
+    → ((secondsDifference a b + 2 ^ 32 - cond w 1 0) % 2 ^ 32 * 1000000000 + (y + 1000000000 * cond w 1 0 - x)
+    ≡ (b * 1000000000 + y + cycle - (a * 1000000000 + x)) % cycle)
+    × (y + 1000000000 * cond w 1 0 - x ≤ 999999999)
 by-borrow a x b y true e ha hb hx hy =
     let less = ltb-true y x e in
-    omega arith
+    (omega arith, omega arith)
 by-borrow a x b y false e ha hb hx hy =
     let least = ltb-false y x e in
-    omega arith
+    (omega arith, omega arith)
 
-pub one-formula : OneFormula
-one-formula entry exit f g =
+of-stamps :
+    (entry exit : Stamp)
+    → Valid entry
+    → Valid exit
+    → (secondsPart entry exit * 1000000000 + nanosecondsPart entry exit ≡ elapsed entry exit) × (nanosecondsPart entry exit ≤ 999999999)
+of-stamps entry exit f g =
     by-borrow (entry .seconds) (entry .nanoseconds) (exit .seconds) (exit .nanoseconds) (ltb (exit .nanoseconds) (entry .nanoseconds)) refl
     (f .seconds) (g .seconds) (f .nanoseconds) (g .nanoseconds)
+
+pub one-formula : OneFormula
+one-formula entry exit f g = of-stamps entry exit f g .0
+
+-- so that the residence is of four seconds or more exactly where the seconds are
+pub below-a-second : (entry exit : Stamp) → Valid entry → Valid exit → nanosecondsPart entry exit ≤ 999999999
+below-a-second entry exit f g = of-stamps entry exit f g .1

@@ -28,7 +28,7 @@ pub fn seconds_between(entry: u32, exit: u32) -> u32
     std::num::wrapping_sub_u32(exit, entry)
 }
 
-// The exit less the entry, in seconds and nanoseconds.
+// The exit less the entry, in seconds and nanoseconds below a second.
 struct Difference {
     seconds: u32,
     nanoseconds: u32,
@@ -60,11 +60,11 @@ pub fn nanoseconds_between(entry: Stamp, exit: Stamp) -> Elapsed
         return Elapsed::InvalidStamp;
     }
     let difference = difference_between(entry, exit);
-    let elapsed = difference.seconds as u64 * 1_000_000_000 + difference.nanoseconds as u64;
-    if 3_999_999_999 < elapsed {
+    // Four seconds or more are over 3,999,999,999 nanoseconds.
+    if 3 < difference.seconds {
         return Elapsed::TooLong;
     }
-    Elapsed::Nanoseconds(elapsed)
+    Elapsed::Nanoseconds(difference.seconds as u64 * 1_000_000_000 + difference.nanoseconds as u64)
 }
 
 // The residence in pad units, as it goes on to a node.

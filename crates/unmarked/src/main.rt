@@ -9,11 +9,13 @@ mod lengths;
 mod limits;
 mod messages;
 mod numbers;
+mod residences;
 mod switchovers;
 mod waits;
 
 fn main() {
     limits::run();
+    residences::run();
     waits::run();
     switchovers::run();
     headers::run();

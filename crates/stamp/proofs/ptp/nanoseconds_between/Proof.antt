@@ -1,7 +1,7 @@
 -- `nanoseconds_between` meets its contract: by the formula its number is document 01's residence, and the tests on the way decide the answer.
 -- Assumes nothing.
 use native.Mathlib.Omega.{arith}
-use Prim.Native.Nat.{_+_, _*_}
+use Prim.Native.Nat.{_+_, _*_, _≤_}
 use mathlib.Core.Path.{_≡_, ap, _∙_}
 use mathlib.Core.Bool.{false}
 use lib.Dec.{ltb}
@@ -9,7 +9,7 @@ use borrow.Author.Tests.{lt-ltb, le-ltb}
 use Rattle.refusal.specs.Answer.{value}
 use Rattle.stamp.specs.Ptp.{elapsed}
 use Rattle.stamp.specs.Formula.{Valid}
-use Rattle.stamp.proofs.Formula.{one-formula}
+use Rattle.stamp.proofs.Formula.{one-formula, below-a-second}
 use borrow.Author.Needs.{needs}
 use Rattle.stamp.proofs.ptp.nanoseconds_between.Statement.{statement}
 use Rattle.stamp.proofs.ptp.nanoseconds_between.Tie as tie
@@ -37,6 +37,11 @@ formula c =
     let e = c .difference-between .ensures in
     (λ i. e .0 i * 1000000000 + e .1 i) ∙ one-formula (a .entry) (a .exit) (valid (c .before) .0) (valid (c .before) .1)
 
+below : (c : tie.After-difference-between) → c .difference-between .result .nanoseconds ≤ 999999999
+below c =
+    let a = c .before .before .before .before .before .args in
+    omega (arith, c .difference-between .ensures .1, below-a-second (a .entry) (a .exit) (valid (c .before) .0) (valid (c .before) .1))
+
 returns : tie.Need-returns
 returns c =
     let a = c .before .before .args in
@@ -49,16 +54,17 @@ returns-2 c =
 
 returns-3 : tie.Need-returns-3
 returns-3 c =
-    let p = c .before .before .before in
+    let p = c .before .before in
     let a = p .before .before .before .before .before .args in
     let d = formula p in
     simp (entry-time (p .before), exit-time (p .before), lt-ltb 3999999999 (elapsed (a .entry) (a .exit)) (omega arith))
 
 returns-4 : tie.Need-returns-4
 returns-4 c =
-    let p = c .before .before .before in
+    let p = c .before .before .before .before in
     let a = p .before .before .before .before .before .args in
     let d = formula p in
+    let n = below p in
     simp (entry-time (p .before), exit-time (p .before), le-ltb 3999999999 (elapsed (a .entry) (a .exit)) (omega arith)) (ap value d)
 
 pub nanoseconds-between-spec : {M : Type 1} → statement M
@@ -68,9 +74,9 @@ nanoseconds-between-spec =
     returns
     returns-2
     (λ c κs. search needs)
-    (λ c. search needs)
-    (λ c. search needs)
-    (λ c. search needs)
-    (λ c. search needs)
     returns-3
+    (λ c. search needs)
+    (λ c. search needs)
+    (λ c. search needs)
+    (λ c. search needs)
     returns-4)

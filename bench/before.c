@@ -1,0 +1,118 @@
+/*
+ * before [rounds]: times the calls with PTP stamps of an earlier library, whose names begin with before_, and
+ * of this one, side by side.
+ */
+#include "bunpennant.h"
+#include "turns.h"
+#include <stdlib.h>
+#include <string.h>
+
+enum { MESSAGE = 36, PAIRS = 1024, SECOND = 1000000000 };
+
+uint8_t before_rtm_residence(bool ntp, struct rtm_stamp entry, struct rtm_stamp exit, uint64_t *units);
+uint8_t before_rtm_one_step(uint8_t *message, size_t size, bool ntp, struct rtm_stamp entry, struct rtm_stamp exit);
+uint8_t before_rtm_two_step(struct rtm_table *table, uint8_t *message, size_t size, uint8_t *output, size_t room,
+                            bool ntp, struct rtm_stamp entry, struct rtm_stamp exit);
+
+static struct { struct rtm_stamp entry, exit; } stamps[PAIRS];
+static uint8_t sync[MESSAGE], clear[MESSAGE], follow_up[MESSAGE], output[MESSAGE];   /* Sync with S set and clear */
+static struct rtm_table table;
+static uint64_t units;
+
+/* The same numbers in every run. */
+static uint32_t below(uint32_t limit) {
+    static uint64_t state = 1;
+    state = state * UINT64_C(6364136223846793005) + UINT64_C(1442695040888963407);
+    return (uint32_t)((state >> 33) % limit);
+}
+
+/* Stamps less than a second apart, with a borrow once in so many pairs and at the last in the others; 0 for
+   none. */
+static void lay_stamps(uint32_t borrows) {
+    int i;
+    for (i = 0; i < PAIRS; i++) {
+        bool borrow = borrows != 0 && below(borrows) == 0;
+        uint32_t less = below(SECOND - 1), more = less + 1 + below(SECOND - 1 - less);
+        stamps[i].entry.seconds = below(1000);
+        stamps[i].entry.part = borrow ? more : less;
+        stamps[i].exit.seconds = stamps[i].entry.seconds + borrow;
+        stamps[i].exit.part = borrow ? less : more;
+    }
+}
+
+static void no_borrow(void) {
+    lay_stamps(0);
+}
+
+static void always_borrow(void) {
+    lay_stamps(1);
+}
+
+static void either(void) {
+    lay_stamps(2);
+}
+
+/* The clock went back by less than a second: refused with 10. */
+static void gone_back(void) {
+    int i;
+    lay_stamps(1);
+    for (i = 0; i < PAIRS; i++) stamps[i].exit.seconds = stamps[i].entry.seconds;
+}
+
+static void lay_message(uint8_t *message, uint8_t flags, uint8_t ptp_type) {
+    static const uint8_t octets[MESSAGE] = {
+        0x10, 0, 0, 15, 0, 0, 0, 0, 0, 0, 0, 0, 0, 2, 0, 20,
+        0, 1, 0, 20, 0, 0, 0, 0, 1, 2, 3, 4, 5, 6, 7, 8, 0, 9, 0, 77};
+    memcpy(message, octets, MESSAGE);
+    message[20] = flags;
+    message[23] = ptp_type;
+}
+
+static void messages(void) {
+    either();
+    lay_message(sync, 0x80, 0);
+    lay_message(clear, 0, 0);
+    lay_message(follow_up, 0x80, 8);
+    rtm_new(&table);
+}
+
+/* Loops for the library before and now. They answer how many calls answered otherwise. */
+
+#define STAMPS RTM_PTP, stamps[calls % PAIRS].entry, stamps[calls % PAIRS].exit
+#define LOOP(name, wrong_in) \
+    static uint64_t before_##name(uint64_t calls) { \
+        uint64_t wrong = 0; \
+        for (; calls > 0; calls--) wrong += wrong_in(before_rtm); \
+        return wrong; \
+    } \
+    static uint64_t now_##name(uint64_t calls) { \
+        uint64_t wrong = 0; \
+        for (; calls > 0; calls--) wrong += wrong_in(rtm); \
+        return wrong; \
+    }
+
+#define RESIDENCE(library) (library##_residence(STAMPS, &units) != 0)
+#define REFUSED(library) (library##_residence(STAMPS, &units) != RTM_TOO_LONG_RESIDENCE)
+#define ONE_STEP(library) (library##_one_step(clear, MESSAGE, STAMPS) != RTM_UPDATED)
+#define PAIR(library) \
+    (library##_two_step(&table, sync, MESSAGE, output, sizeof output, STAMPS) != RTM_WAITING) \
+    + (library##_two_step(&table, follow_up, MESSAGE, output, sizeof output, STAMPS) != RTM_ADDED)
+
+LOOP(residence, RESIDENCE)
+LOOP(refused, REFUSED)
+LOOP(one_step, ONE_STEP)
+LOOP(pair, PAIR)
+
+static const struct timed rows[] = {
+    {"residence, no borrow", no_borrow, before_residence, now_residence},
+    {"residence, always a borrow", always_borrow, before_residence, now_residence},
+    {"residence, a borrow in every second", either, before_residence, now_residence},
+    {"residence, refused with 10", gone_back, before_refused, now_refused},
+    {"one-step", messages, before_one_step, now_one_step},
+    {"Sync and Follow_Up", messages, before_pair, now_pair},
+};
+
+int main(int argc, char **argv) {
+    take_turns(rows, sizeof rows / sizeof *rows, argc > 1 ? atoi(argv[1]) : ROUNDS, "before, ns", "now, ns");
+    return 0;
+}
