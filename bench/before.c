@@ -3,33 +3,36 @@
  * of this one, side by side.
  */
 #include "bunpennant.h"
+#include "sample.h"
 #include "turns.h"
 #include <stdlib.h>
-#include <string.h>
 
-enum { MESSAGE = 36, PAIRS = 1024, SECOND = 1000000000 };
+enum { PAIRS = 1024, SECOND = 1000000000 };
 
 uint8_t before_rtm_residence(bool ntp, struct rtm_stamp entry, struct rtm_stamp exit, uint64_t *units);
-uint8_t before_rtm_one_step(uint8_t *message, size_t size, bool ntp, struct rtm_stamp entry, struct rtm_stamp exit);
-uint8_t before_rtm_two_step(struct rtm_table *table, uint8_t *message, size_t size, uint8_t *output, size_t room,
-                            bool ntp, struct rtm_stamp entry, struct rtm_stamp exit);
+uint8_t before_rtm_one_step(uint8_t *message, size_t size, bool ntp, struct rtm_stamp entry,
+                            struct rtm_stamp exit);
+uint8_t before_rtm_two_step(struct rtm_table *table, uint8_t *message, size_t size, uint8_t *output,
+                            size_t room, bool ntp, struct rtm_stamp entry, struct rtm_stamp exit);
 
 static struct { struct rtm_stamp entry, exit; } stamps[PAIRS];
-static uint8_t sync[MESSAGE], clear[MESSAGE], follow_up[MESSAGE], output[MESSAGE];   /* Sync with S set and clear */
+static uint8_t sync[MESSAGE], clear[MESSAGE], follow_up[MESSAGE];     /* Sync with S set, and with S clear */
+static uint8_t output[MESSAGE];
 static struct rtm_table table;
 static uint64_t units;
 
-/* The same numbers in every run. */
+static uint64_t state;
+
 static uint32_t below(uint32_t limit) {
-    static uint64_t state = 1;
     state = state * UINT64_C(6364136223846793005) + UINT64_C(1442695040888963407);
     return (uint32_t)((state >> 33) % limit);
 }
 
-/* Stamps less than a second apart, with a borrow once in so many pairs and at the last in the others; 0 for
-   none. */
+/* Stamps less than a second apart, one pair in so many with a borrow; 0 for none. They are random, and the
+   same in every run. */
 static void lay_stamps(uint32_t borrows) {
     int i;
+    state = 1;
     for (i = 0; i < PAIRS; i++) {
         bool borrow = borrows != 0 && below(borrows) == 0;
         uint32_t less = below(SECOND - 1), more = less + 1 + below(SECOND - 1 - less);
@@ -57,15 +60,6 @@ static void gone_back(void) {
     int i;
     lay_stamps(1);
     for (i = 0; i < PAIRS; i++) stamps[i].exit.seconds = stamps[i].entry.seconds;
-}
-
-static void lay_message(uint8_t *message, uint8_t flags, uint8_t ptp_type) {
-    static const uint8_t octets[MESSAGE] = {
-        0x10, 0, 0, 15, 0, 0, 0, 0, 0, 0, 0, 0, 0, 2, 0, 20,
-        0, 1, 0, 20, 0, 0, 0, 0, 1, 2, 3, 4, 5, 6, 7, 8, 0, 9, 0, 77};
-    memcpy(message, octets, MESSAGE);
-    message[20] = flags;
-    message[23] = ptp_type;
 }
 
 static void messages(void) {
@@ -106,13 +100,14 @@ LOOP(pair, PAIR)
 static const struct timed rows[] = {
     {"residence, no borrow", no_borrow, before_residence, now_residence},
     {"residence, always a borrow", always_borrow, before_residence, now_residence},
-    {"residence, a borrow in every second", either, before_residence, now_residence},
+    {"residence, a borrow in half of them", either, before_residence, now_residence},
     {"residence, refused with 10", gone_back, before_refused, now_refused},
     {"one-step", messages, before_one_step, now_one_step},
     {"Sync and Follow_Up", messages, before_pair, now_pair},
 };
 
 int main(int argc, char **argv) {
-    take_turns(rows, sizeof rows / sizeof *rows, argc > 1 ? atoi(argv[1]) : ROUNDS, "before, ns", "now, ns");
+    int rounds = argc > 1 ? atoi(argv[1]) : ROUNDS;
+    take_turns(rows, sizeof rows / sizeof *rows, rounds, "before, ns", "now, ns");
     return 0;
 }

@@ -4,12 +4,12 @@
  * call out.
  */
 #include "plain.h"
+#include "sample.h"
 #include "turns.h"
 #include <alloca.h>
 #include <stdlib.h>
-#include <string.h>
 
-enum { MESSAGE = 36, PACKET = 44, ENTRIES = 51, ENTRY = 20, TICKS = 250, PAGE = 4096 };
+enum { PACKET = 44, ENTRIES = 51, ENTRY = 20, TICKS = 250, PAGE = 4096 };
 
 /* From libby_value.a: `count` pairs at a two-step node, called from Rattle code with the table by value or
    lent. They answer how many pairs went well. */
@@ -28,15 +28,6 @@ static uint64_t units;
 static size_t size;
 static struct rtm_table library_table, library_full;
 static struct plain_table plain_table, plain_full;
-
-static void lay_message(uint8_t *message, uint8_t flags, uint8_t ptp_type) {
-    static const uint8_t octets[MESSAGE] = {
-        0x10, 0, 0, 15, 0, 0, 0, 0, 0, 0, 0, 0, 0, 2, 0, 20,
-        0, 1, 0, 20, 0, 0, 0, 0, 1, 2, 3, 4, 5, 6, 7, 8, 0, 9, 0, 77};
-    memcpy(message, octets, MESSAGE);
-    message[20] = flags;
-    message[23] = ptp_type;
-}
 
 /* Other Syncs of the same port identity, in the slots from 0 on. */
 static void lay_tables(int others, uint8_t wait) {
@@ -212,6 +203,7 @@ static const struct timed rows[] = {
 };
 
 int main(int argc, char **argv) {
-    take_turns(rows, sizeof rows / sizeof *rows, argc > 1 ? atoi(argv[1]) : ROUNDS, "plain C, ns", "library, ns");
+    int rounds = argc > 1 ? atoi(argv[1]) : ROUNDS;
+    take_turns(rows, sizeof rows / sizeof *rows, rounds, "plain C, ns", "library, ns");
     return 0;
 }

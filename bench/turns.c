@@ -56,7 +56,8 @@ void take_turns(const struct timed *rows, int count, int rounds, const char *fir
     }
     printf("%-40s %12s %12s %8s\n", "operation", first, second, "ratio");
     for (i = 0; i < count; i++) {
-        printf("%-40s %12.1f %12.1f %8.2f\n", rows[i].name, least[2 * i], least[2 * i + 1], least[2 * i + 1] / least[2 * i]);
+        double one = least[2 * i], other = least[2 * i + 1];
+        printf("%-40s %12.1f %12.1f %8.2f\n", rows[i].name, one, other, other / one);
     }
     free(least);
 }
