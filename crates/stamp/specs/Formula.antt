@@ -19,7 +19,7 @@ secondsPart entry exit = (secondsDifference (entry .seconds) (exit .seconds) + 2
 abbrev pub nanosecondsPart : Stamp → Stamp → ℕ
 nanosecondsPart entry exit = exit .nanoseconds + 1000000000 * borrowOf entry exit - entry .nanoseconds
 
--- a stamp "that 9 lets through"; its seconds are 32 bits, as in every stamp that the code is handed
+-- "stamps that 9 lets through"; the seconds are 32 bits, as in every stamp that the code is handed
 pub record Valid (t : Stamp) : Type 0 where
   pub seconds : t .seconds < 2 ^ 32
   pub nanoseconds : t .nanoseconds ≤ 999999999

@@ -34,8 +34,8 @@ struct Difference {
     nanoseconds: u32,
 }
 
-// The difference of stamps that are times, by the formula of the hardware (document 02, W-207): with
-// a borrow exactly where the exit's nanoseconds are below the entry's.
+// The difference of stamps that refusal 9 lets through, as the hardware has it (document 02, W-207).
+// The borrow is 1 exactly where the exit's nanoseconds are below the entry's.
 fn difference_between(entry: Stamp, exit: Stamp) -> Difference
     requires { ⌜ Valid entry × Valid exit ⌝ }
     ensures { λ r. ⌜ (r .seconds ≡ secondsPart entry exit) × (r .nanoseconds ≡ nanosecondsPart entry exit) ⌝ }
