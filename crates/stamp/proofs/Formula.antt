@@ -2,14 +2,14 @@
 -- Assumes nothing.
 use Prim.Native.Nat.{ℕ, _+_, _*_, _-_, _%_, _<_, _≤_, _^_}
 use mathlib.Core.Path.{_≡_, refl}
-use mathlib.Core.Bool.{Bool, true, false, cond}
+use mathlib.Core.Bool.{Bool, true, false, cond, _||_}
 use native.Mathlib.Omega.{arith}
 use borrow.Author.Tests.{ltb-true, ltb-false}
 use lib.Dec.{ltb}
-use Rattle.refusal.specs.Answer.{refused}
+use Rattle.refusal.specs.Answer.{value, refused, refuse}
 use Rattle.stamp.specs.declared.ptp.Stamp.{Stamp}
 use Rattle.stamp.specs.Ptp.{secondsDifference, cycle, elapsed, nanosecondsOf}
-use Rattle.stamp.specs.Formula.{borrowOf, secondsPart, nanosecondsPart, Valid, OneFormula}
+use Rattle.stamp.specs.Formula.{borrowOf, secondsPart, nanosecondsPart, OneFormula}
 
 abbrev at : ℕ → ℕ → Stamp
 at s n = record { seconds = s; nanoseconds = n }
@@ -57,18 +57,37 @@ by-borrow a x b y false e ha hb hx hy =
     let least = ltb-false y x e in
     (omega arith, omega arith)
 
-of-stamps :
+-- the law of the two parts: their sum, and that the nanoseconds are below a second, so that the residence is of four seconds or more exactly
+-- where the seconds are
+pub by-parts :
     (entry exit : Stamp)
-    → Valid entry
-    → Valid exit
+    → entry .seconds < 2 ^ 32
+    → exit .seconds < 2 ^ 32
+    → (entry .nanoseconds ≤ 999999999) × (exit .nanoseconds ≤ 999999999)
     → (secondsPart entry exit * 1000000000 + nanosecondsPart entry exit ≡ elapsed entry exit) × (nanosecondsPart entry exit ≤ 999999999)
-of-stamps entry exit f g =
-    by-borrow (entry .seconds) (entry .nanoseconds) (exit .seconds) (exit .nanoseconds) (ltb (exit .nanoseconds) (entry .nanoseconds)) refl
-    (f .seconds) (g .seconds) (f .nanoseconds) (g .nanoseconds)
+by-parts entry exit f g t =
+    by-borrow (entry .seconds) (entry .nanoseconds) (exit .seconds) (exit .nanoseconds) (ltb (exit .nanoseconds) (entry .nanoseconds)) refl f g
+    (t .0) (t .1)
+
+-- what 9 lets through
+times :
+    (entry exit : Stamp)
+    → (nanosecondsOf entry exit ≡ refused 9 → ⊥)
+    → (entry .nanoseconds ≤ 999999999) × (exit .nanoseconds ≤ 999999999)
+times entry exit h = go (ltb 999999999 (entry .nanoseconds)) (ltb 999999999 (exit .nanoseconds)) refl refl h
+  where
+    d : ℕ
+    d = elapsed entry exit
+
+    go :
+        (a b : Bool)
+        → ltb 999999999 (entry .nanoseconds) ≡ a
+        → ltb 999999999 (exit .nanoseconds) ≡ b
+        → (refuse 9 (a || b) (refuse 10 (ltb 3999999999 d) (value d)) ≡ refused 9 → ⊥)
+        → (entry .nanoseconds ≤ 999999999) × (exit .nanoseconds ≤ 999999999)
+    go true b e f k = absurd (k refl)
+    go false true e f k = absurd (k refl)
+    go false false e f k = (ltb-false 999999999 (entry .nanoseconds) e, ltb-false 999999999 (exit .nanoseconds) f)
 
 pub one-formula : OneFormula
-one-formula entry exit f g = of-stamps entry exit f g .0
-
--- so that the residence is of four seconds or more exactly where the seconds are
-pub below-a-second : (entry exit : Stamp) → Valid entry → Valid exit → nanosecondsPart entry exit ≤ 999999999
-below-a-second entry exit f g = of-stamps entry exit f g .1
+one-formula entry exit f g h = by-parts entry exit f g (times entry exit h) .0

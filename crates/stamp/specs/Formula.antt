@@ -1,10 +1,11 @@
 -- One formula for the stay between PTP stamps, as the hardware has it (document 02, W-207).
-use Prim.Native.Nat.{ℕ, _+_, _*_, _-_, _%_, _^_, _<_, _≤_}
+use Prim.Native.Nat.{ℕ, _+_, _*_, _-_, _%_, _^_, _<_}
 use mathlib.Core.Path.{_≡_}
 use mathlib.Core.Bool.{cond}
 use lib.Dec.{ltb}
+use Rattle.refusal.specs.Answer.{refused}
 use Rattle.stamp.specs.declared.ptp.Stamp.{Stamp}
-use Rattle.stamp.specs.Ptp.{secondsDifference, elapsed}
+use Rattle.stamp.specs.Ptp.{secondsDifference, elapsed, nanosecondsOf}
 
 -- "a borrow, 1 exactly where the exit's nanoseconds are below the entry's"
 abbrev pub borrowOf : Stamp → Stamp → ℕ
@@ -19,16 +20,12 @@ secondsPart entry exit = (secondsDifference (entry .seconds) (exit .seconds) + 2
 abbrev pub nanosecondsPart : Stamp → Stamp → ℕ
 nanosecondsPart entry exit = exit .nanoseconds + 1000000000 * borrowOf entry exit - entry .nanoseconds
 
--- "stamps that 9 lets through"; the seconds are 32 bits, as in every stamp that the code is handed
-pub record Valid (t : Stamp) : Type 0 where
-  pub seconds : t .seconds < 2 ^ 32
-  pub nanoseconds : t .nanoseconds ≤ 999999999
-
 -- "Show, for all stamps that 9 lets through, that these seconds times 10^9 plus these nanoseconds equal document 01's stay."
--- (Also where 10 refuses it.)
+-- (Also where 10 refuses it. Seconds are 32 bits, as in every stamp that the code is handed.)
 abbrev pub OneFormula : Type 0
 OneFormula =
     (entry exit : Stamp)
-    → Valid entry
-    → Valid exit
+    → entry .seconds < 2 ^ 32
+    → exit .seconds < 2 ^ 32
+    → (nanosecondsOf entry exit ≡ refused 9 → ⊥)
     → secondsPart entry exit * 1000000000 + nanosecondsPart entry exit ≡ elapsed entry exit

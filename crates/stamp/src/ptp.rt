@@ -1,9 +1,10 @@
 // The residence between two PTP truncated timestamps (RFC 8877, 4.3; document 01, Stamps and the stay).
 use residence::Residence;
 ghost use mathlib.Core.Path.{_≡_};
+ghost use Prim.Native.Nat.{_≤_};
 ghost use Rattle.residence.specs.Residence.{residenceAnswer};
 ghost use Rattle.stamp.specs.Ptp.{secondsDifference, nanosecondsOf, residenceOf};
-ghost use Rattle.stamp.specs.Formula.{Valid, secondsPart, nanosecondsPart};
+ghost use Rattle.stamp.specs.Formula.{secondsPart, nanosecondsPart};
 ghost use Rattle.stamp.specs.Answers.{elapsedAnswer};
 
 // A PTP truncated timestamp. Nanoseconds over 999,999,999 are no time.
@@ -37,7 +38,7 @@ struct Difference {
 // The difference of stamps that refusal 9 lets through, as the hardware has it (document 02, W-207).
 // The borrow is 1 exactly where the exit's nanoseconds are below the entry's.
 fn difference_between(entry: Stamp, exit: Stamp) -> Difference
-    requires { ⌜ Valid entry × Valid exit ⌝ }
+    requires { ⌜ (entry .nanoseconds ≤ 999999999) × (exit .nanoseconds ≤ 999999999) ⌝ }
     ensures { λ r. ⌜ (r .seconds ≡ secondsPart entry exit) × (r .nanoseconds ≡ nanosecondsPart entry exit) ⌝ }
 {
     let borrow = (exit.nanoseconds < entry.nanoseconds) as u32;
