@@ -1,8 +1,8 @@
 -- Big-endian numbers in octets (document 01, The RTM message: "Numbers are big-endian").
 use Prim.Native.Nat.{ℕ, zero, suc, _+_, _*_, _/_, _%_, _<_}
-use mathlib.Core.Bool.{cond}
+use mathlib.Core.Bool.{Bool, true, false, cond, _&&_}
 use mathlib.Core.List.{List, [], _∷_, _++_}
-use lib.Dec.{leb}
+use lib.Dec.{leb, eqb}
 use lib.IntN.{ℤ}
 use lib.ListN.{length, getD, take, drop}
 use mir.Syntax.{w64}
@@ -32,3 +32,10 @@ signedOctets z = octets 8 (ofZ w64 z)
 -- the list with vs in it from place i on, where they fit; else as it came
 abbrev pub put : List ℕ → ℕ → List ℕ → List ℕ
 put s i vs = cond (leb (i + length vs) (length s)) (take i s ++ vs ++ drop (i + length vs) s) s
+
+-- the same octets, in the same number
+abbrev pub same : List ℕ → List ℕ → Bool
+same [] [] = true
+same [] (y ∷ ys) = false
+same (x ∷ xs) [] = false
+same (x ∷ xs) (y ∷ ys) = eqb x y && same xs ys

@@ -60,3 +60,8 @@ pub const NO_ENTRY: u8 = 21;
 
 // An image of the table.
 pub const IMAGE: u8 = 22;
+
+// The TTL for the next timing node, and the label entries.
+pub const NO_TIMING_NODE: u8 = 24;
+
+pub const LABEL: u8 = 25;

@@ -1,17 +1,17 @@
--- The count of the entries: one more than that of the rest, and no more than the octets.
+-- The count of the entries: one more than that of the rest, and each has eight octets or more.
 -- Assumes nothing.
-use Prim.Native.Nat.{ℕ, zero, suc, _+_, _≤_}
+use Prim.Native.Nat.{ℕ, zero, suc, _+_, _*_, _<_, _≤_}
 use mathlib.Core.Path.{_≡_, refl, sym, ap, _∙_}
 use mathlib.Core.Bool.{Bool, true, false, cond, not}
 use mathlib.Core.List.{List, []}
 use native.Mathlib.Numerals.{add-one}
 use native.Mathlib.Omega.{arith}
 use lib.Dec.{eqb, ltb}
-use lib.ListN.{length, take, drop}
+use lib.ListN.{length, getD, take, drop, length-drop}
 use Rattle.refusal.specs.Answer.{Answer, value, refused, refuse, andThen}
 use Rattle.refusal.proofs.Answers.{not-both}
-use Rattle.rtm_set.specs.Entries.{frontSize, isEntry, entriesWithin, entriesOf, countOf}
-use Rattle.rtm_set.proofs.Rest.{Front, before, entries-rest}
+use Rattle.rtm_set.specs.Entries.{entrySize, frontSize, isEntry, entriesWithin, entriesOf, countOf}
+use Rattle.rtm_set.proofs.Rest.{Front, front, before, entries-rest}
 
 -- the count of an answer's entries
 abbrev pub counted : Answer (List (List ℕ)) → Answer ℕ
@@ -31,26 +31,47 @@ count-rest s n f short = ap counted (entries-rest s n f short) ∙ go (entriesOf
     go (value es) = ap value (sym (add-one (length es)))
     go (refused m) = refl
 
--- an answer of at most k entries
-abbrev AtMost : ℕ → Answer (List (List ℕ)) → Type 0
-AtMost k (value es) = length es ≤ k
-AtMost k (refused n) = Unit {0}
-
-few : (k : ℕ) (s : List ℕ) → AtMost k (entriesWithin k s)
-few zero s = omega arith
-few (suc k) s =
-    go (eqb (length s) 0) (not (isEntry s)) (entriesWithin k (drop (frontSize s) s)) (few k (drop (frontSize s) s))
+-- an entry has at least its head and four octets of address
+size-least : (t : ℕ) → 0 < entrySize t → 8 ≤ entrySize t
+size-least t h = go (eqb t 1) (eqb t 2) (eqb t 3) h
   where
-    go : (none bad : Bool) (a : Answer (List (List ℕ))) → AtMost k a → AtMost (suc k) (cond none (value []) (refuse 20 bad (before (take (frontSize s) s) a)))
-    go true bad a h = omega arith
-    go false true a h = tt
-    go false false (value es) h = omega arith
-    go false false (refused n) h = tt
+    go : (a b c : Bool) → 0 < cond a 8 (cond b 20 (cond c 12 0)) → 8 ≤ cond a 8 (cond b 20 (cond c 12 0))
+    go true b c h = omega arith
+    go false true c h = omega arith
+    go false false true h = omega arith
+    go false false false h = absurd (omega arith)
 
-pub count-few : (s : List ℕ) (m : ℕ) → countOf s ≡ value m → m ≤ length s
-count-few s m e = go (ltb 1024 (length s)) (entriesWithin (length s) s) (few (length s) s) e
+pub front-least : (s : List ℕ) (n : ℕ) → Front s n → 8 ≤ n
+front-least s n f =
+    let e = f .size in
+    let l = size-least (getD s 0 0) (omega (arith, f .some)) in
+    omega arith
+
+-- an answer whose entries have room in m octets
+abbrev Fit : ℕ → Answer (List (List ℕ)) → Type 0
+Fit m (value es) = 8 * length es ≤ m
+Fit m (refused n) = Unit {0}
+
+fit : (k : ℕ) (s : List ℕ) → Fit (length s) (entriesWithin k s)
+fit zero s = omega arith
+fit (suc k) s =
+    let n = frontSize s in
+    go (eqb (length s) 0) (isEntry s) refl (entriesWithin k (drop n s)) (fit k (drop n s))
   where
-    go : (long : Bool) (a : Answer (List (List ℕ))) → AtMost (length s) a → counted (refuse 19 long a) ≡ value m → m ≤ length s
+    go : (none is : Bool) → isEntry s ≡ is → (a : Answer (List (List ℕ))) → Fit (length (drop (frontSize s) s)) a
+        → Fit (length s) (cond none (value []) (refuse 20 (not is) (before (take (frontSize s) s) a)))
+    go true is e a h = omega arith
+    go false false e a h = tt
+    go false true e (refused m) h = tt
+    go false true e (value es) h =
+        let f = front s (frontSize s) (rw e) e in
+        let l = front-least s (frontSize s) f in
+        omega (arith, f .fits, length-drop (frontSize s) s)
+
+pub count-few : (s : List ℕ) (m : ℕ) → countOf s ≡ value m → 8 * m ≤ length s
+count-few s m e = go (ltb 1024 (length s)) (entriesWithin (length s) s) (fit (length s) s) e
+  where
+    go : (long : Bool) (a : Answer (List (List ℕ))) → Fit (length s) a → counted (refuse 19 long a) ≡ value m → 8 * m ≤ length s
     go true a h q = absurd (not-both q)
     go false (value es) h q = let z : length es ≡ m = cc in omega arith
     go false (refused n) h q = absurd (not-both q)

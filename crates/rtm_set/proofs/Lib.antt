@@ -3,3 +3,4 @@ pub mod Parts
 pub mod PartExamples
 pub mod Places
 pub mod Rest
+pub mod Sound

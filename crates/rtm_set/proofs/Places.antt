@@ -2,17 +2,18 @@
 -- Assumes nothing.
 use Prim.Native.Nat.{ℕ, zero, suc, _-_, _<_, _≤_}
 use mathlib.Core.Path.{_≡_, refl, sym, ap, _∙_}
-use mathlib.Core.Bool.{Bool, true, false}
+use mathlib.Core.Bool.{true}
 use mathlib.Core.List.{List, []}
 use native.Mathlib.Omega.{arith}
-use borrow.Author.Tests.{le-leb, lt-leb, ltb-false}
-use lib.Dec.{leb·zero, leb·suc-suc, leb, ltb}
+use borrow.Author.Tests.{le-leb, lt-leb}
+use lib.Dec.{leb·zero, leb·suc-suc, leb}
 use lib.ListN.{length, getD, take, drop}
 use Rattle.refusal.specs.Answer.{Answer, value, refused, refuse, andThen}
 use Rattle.refusal.proofs.Answers.{not-both}
-use Rattle.rtm_set.specs.Entries.{isEntry, entriesOf, entryOf, partBy}
-use Rattle.rtm_set.proofs.Rest.{Front, before, entries-bad, entries-rest}
+use Rattle.rtm_set.specs.Entries.{isEntry, entriesOf, entriesBy, entryOf, partBy}
+use Rattle.rtm_set.proofs.Rest.{Front, before, entries-rest}
 use Rattle.rtm_set.proofs.Counts.{counted}
+use Rattle.rtm_set.proofs.Sound.{Sound, short, entry-first}
 
 -- the entry at a place of an answer's entries
 abbrev pub at : ℕ → Answer (List (List ℕ)) → Answer (List ℕ)
@@ -37,22 +38,18 @@ module _ (s : List ℕ) (k : ℕ) (has : value (partBy (entryOf s k)) ≡ entryO
   pub not-refused : (n : ℕ) → entryOf s k ≡ refused n → ⊥
   not-refused n e = not-both (sym e ∙ sym has)
 
-  pub has-short : length s ≤ 1024
-  has-short = go (ltb 1024 (length s)) refl
+  sound : Sound s
+  sound = go (entriesOf s) has
     where
-      go : (long : Bool) → ltb 1024 (length s) ≡ long → length s ≤ 1024
-      go true e = absurd (not-refused 19 (rw e))
-      go false e = ltb-false 1024 (length s) e
+      go : (a : Answer (List (List ℕ))) → value (partBy (at k a)) ≡ at k a → value (entriesBy a) ≡ a
+      go (value es) e = refl
+      go (refused m) e = absurd (not-both (sym e))
+
+  pub has-short : length s ≤ 1024
+  has-short = short s sound
 
   pub has-front : isEntry s ≡ true
-  has-front = go (isEntry s) refl
-    where
-      some : length s ≡ 0 → ⊥
-      some z = not-refused 21 (rw (z, leb·zero k))
-
-      go : (b : Bool) → isEntry s ≡ b → b ≡ true
-      go true e = refl
-      go false e = absurd (not-refused 20 (ap (at k) (entries-bad s has-short some e)))
+  has-front = entry-first s sound (λ z. not-refused 21 (rw (z, leb·zero k)))
 
   module _ (n : ℕ) (f : Front s n) where
     pub entry-later : (k ≡ 0 → ⊥) → entryOf s k ≡ entryOf (drop n s) (k - 1)

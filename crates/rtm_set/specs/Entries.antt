@@ -33,6 +33,14 @@ entriesWithin (suc k) s =
 abbrev pub entriesOf : List ℕ → Answer (List (List ℕ))
 entriesOf s = refuse 19 (ltb 1024 (length s)) (entriesWithin (length s) s)
 
+-- the entries of a list that is not refused; none of one that is
+abbrev pub entriesBy : Answer (List (List ℕ)) → List (List ℕ)
+entriesBy (value es) = es
+entriesBy (refused n) = []
+
+abbrev pub entriesIn : List ℕ → List (List ℕ)
+entriesIn s = entriesBy (entriesOf s)
+
 -- "The count of entries"
 abbrev pub countOf : List ℕ → Answer ℕ
 countOf s = andThen (entriesOf s) (λ es. value (length es))

@@ -5,6 +5,8 @@ pub const TYPE: usize = 0;
 
 pub const LENGTH: usize = 1;
 
+pub const ADDRESS: usize = 4;
+
 // The types, and the whole length of an entry of each.
 pub const IPV4: u8 = 1;
 

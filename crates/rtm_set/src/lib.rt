@@ -1,7 +1,7 @@
 // The address list of the RTM_SET TLV, from egress to ingress (RFC 8169, 4.4.1; document 01, The
 // address list): how many entries it has, and the entry at a place, also as its offset and length.
 mod answers;
-mod layout;
+pub mod layout;
 mod list;
 
 pub use answers::Count;
@@ -9,5 +9,6 @@ pub use answers::Located;
 pub use answers::Lookup;
 pub use list::count;
 pub use list::entry;
+pub use list::front_size;
 pub use list::locate;
 pub use list::lookup;

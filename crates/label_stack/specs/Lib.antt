@@ -1,0 +1,4 @@
+pub mod Ttl
+pub mod Labels
+pub mod Answers
+pub mod Promises
