@@ -4,6 +4,7 @@
 mod format;
 mod images;
 mod joins;
+mod labels;
 mod lists;
 mod one_step;
 mod read;
@@ -37,6 +38,8 @@ fn run(operation: u8, body: &[u8]) {
         18 => requests::run_collect(body),
         19 => images::run_replace(body),
         20 => requests::run_waiting(body),
+        21 => labels::run_search(body),
+        22 => labels::run_write(body),
         _ => return,
     }
     print::end_line();
