@@ -3,10 +3,11 @@
  *
  * A node makes one call for each RTM message, with the stamps of its entry and its exit: rtm_one_step or
  * rtm_two_step. A two-step node keeps a table of residences that wait for their message, and calls rtm_tick
- * once a second. At the egress rtm_join gives the total of a Sync and its Follow_Up.
+ * once a second. At the egress rtm_join gives the total of a Sync and its Follow_Up. rtm_write_labels gives
+ * the label entries that take a message to the next timing node of its path.
  *
  * Answers. A call answers 0, or at a node one of the words RTM_UPDATED to RTM_ADDED. Any other number is
- * that of a refusal, RTM_TOO_SHORT to RTM_SUB_TLV_LENGTH: the first that applies, in the order that is
+ * that of a refusal, RTM_TOO_SHORT to RTM_LABEL: the first that applies, in the order that is
  * given with each function. A refusal leaves everything that the call was lent exactly as it came. rtm_tick
  * and rtm_waiting answer a count and refuse nothing.
  *
@@ -15,8 +16,8 @@
  *   - A pointer is valid for as many octets as its length or its type says. Until the call returns nothing
  *     else changes these octets, or reads those that the call may write.
  *   - What one call is lent does not overlap.
- *   - Tables, fields, parts, joined pairs and places for a number are 8-aligned, as C aligns them.
- *     Messages, outputs, images and lists may lie at any address.
+ *   - Tables, fields, parts, joined pairs and places for a number of 8 octets are 8-aligned, as C aligns
+ *     them. Messages, outputs, images, lists and the place for a TTL may lie at any address.
  *   - The argument ntp holds 0 or 1, as any bool of C does.
  * NULL with a length of 0 is a message, packet, output, image or list of no octets. Nothing is read or
  * written through it. No other pointer may be NULL.
@@ -71,16 +72,19 @@ enum {
     RTM_NOT_A_PAIR = 18,         /* joining: not a Sync with S set and its Follow_Up */
     RTM_LIST_TOO_LONG = 19,      /* address list over 1,024 octets */
     RTM_BAD_ENTRY = 20,          /* some entry of the list cut short, of unknown type or of wrong length */
-    RTM_NO_ENTRY = 21,           /* place not below the number of entries */
+    RTM_NO_ENTRY = 21,           /* place or position not below the number of entries */
     RTM_IMAGE = 22,              /* no image that can be loaded, or a table that gives none */
-    RTM_SUB_TLV_LENGTH = 23      /* writing types 2 to 4: length neither 20 nor 16 */
+    RTM_SUB_TLV_LENGTH = 23,     /* writing types 2 to 4: length neither 20 nor 16 */
+    RTM_NO_TIMING_NODE = 24,     /* no hop behind the position is in RTM_SET */
+    RTM_LABEL = 25               /* label below 16 or over 1,048,575 */
 };
 
 /* Sizes, in octets. */
 enum {
     RTM_LARGEST_MESSAGE = 2048,  /* the largest message */
     RTM_CREATED_SIZE = 36,       /* the Follow_Up that a two-step node creates */
-    RTM_IMAGE_SIZE = 369         /* the largest image of a table: 1 and 23 for each of 16 records */
+    RTM_IMAGE_SIZE = 369,        /* the largest image of a table: 1 and 23 for each of 16 records */
+    RTM_LABELS_SIZE = 8          /* the two label entries */
 };
 
 /*
@@ -260,6 +264,27 @@ uint8_t rtm_address_count(const uint8_t *list, size_t size, size_t *count);
  * in this order. A refusal leaves `entry` as it came.
  */
 uint8_t rtm_address_entry(const uint8_t *list, size_t size, size_t place, struct rtm_part *entry);
+
+/*
+ * Finds the TTL that takes a packet to the next timing node. `hops`, of `hops_size` octets, is the path's
+ * address list from ingress to egress; `set`, of `set_size` octets, is the RTM_SET list, in any order; the
+ * packet is at the hop at `position`, counted from 0. Answers 0 and writes to `ttl` the distance to the
+ * nearest later hop whose type and address occur in `set`: 1 for the very next hop, at most 127. Reserved
+ * octets are not compared. Refusals: 19, 20 of the hops; 19, 20 of the RTM_SET list; 21 for the position;
+ * 24 exactly if there is no such hop; in this order. A refusal leaves `ttl` as it came.
+ */
+uint8_t rtm_next_ttl(const uint8_t *hops, size_t hops_size, const uint8_t *set, size_t set_size,
+                     size_t position, uint8_t *ttl);
+
+/*
+ * Writes the two label entries (RFC 3032, RFC 5586) for that TTL at the start of `output`, which has `room`
+ * octets: `label`, the LSP's, with the TTL that rtm_next_ttl gives, not bottom of stack; then label 13,
+ * bottom of stack, TTL 1; both traffic classes 0. Answers 0: RTM_LABELS_SIZE octets are written, of which
+ * octet 3 is the TTL; output beyond them stays. Refusals: those of rtm_next_ttl; 25; 12; in this order. A
+ * refusal leaves `output` as it came.
+ */
+uint8_t rtm_write_labels(const uint8_t *hops, size_t hops_size, const uint8_t *set, size_t set_size,
+                         size_t position, uint32_t label, uint8_t *output, size_t room);
 
 /* A compiler that lays these out in another way stops here. */
 typedef char rtm_size_has_8_octets[sizeof(size_t) == 8 ? 1 : -1];

@@ -112,6 +112,10 @@ sized r out n = record { answer = r; output = out; size = n }
 abbrev pub sizedOf : ℕ → Write → Sized
 sizedOf old w = sized (refusalIn (w .answer)) (w .output) (sizeOr old (w .answer))
 
+-- What is written to an output where its size is known
+abbrev pub toldWrite : Write → Told (List ℕ)
+toldWrite w = told (refusalIn (w .answer)) (w .output)
+
 -- struct rtm_part, in two numbers: a part of a string, its offset and its length; here the packet that a message s carries
 unfoldable pub putPart : List ℕ → ℕ → ℕ → List ℕ
 putPart w o n = set (set w 0 o) 1 n

@@ -4,6 +4,7 @@
 mod addresses;
 mod fields;
 mod joins;
+mod labels;
 mod messages;
 mod nodes;
 mod tables;
@@ -11,6 +12,8 @@ mod tables;
 pub use addresses::rtm_address_count;
 pub use addresses::rtm_address_entry;
 pub use joins::rtm_join;
+pub use labels::rtm_next_ttl;
+pub use labels::rtm_write_labels;
 pub use messages::rtm_carried;
 pub use messages::rtm_read;
 pub use messages::rtm_write;

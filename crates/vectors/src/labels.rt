@@ -4,10 +4,7 @@ use label_stack::Ttl;
 
 // The RTM_SET list, which stands behind the hops.
 fn set_of(lists: &[u8]) -> &[u8] {
-    format::counted(format::after(
-        format::after(lists, 2),
-        octets::read16(lists, 0) as usize,
-    ))
+    format::counted(format::after(format::after(lists, 2), octets::read16(lists, 0) as usize))
 }
 
 pub(crate) fn run_search(body: &[u8]) {
