@@ -2,10 +2,11 @@
 -- Assumes nothing.
 use Prim.Native.Nat.{ℕ}
 use mathlib.Core.Path.{_≡_, refl}
+use mathlib.Core.Bool.{false}
 use mathlib.Core.List.{List, [], _∷_, _++_}
 use lib.ListN.{replicate}
 use Rattle.refusal.specs.Answer.{value, refused}
-use Rattle.label_stack.specs.Ttl.{ttlOf}
+use Rattle.label_stack.specs.Ttl.{sameAddress, ttlOf}
 use Rattle.label_stack.specs.Labels.{labelsOf}
 
 -- an IPv4 entry of 192.0.2.0/24, by its last octet and its reserved octets
@@ -44,6 +45,10 @@ met-first = refl
 -- the hop at the position does not count, unless it stands again
 not-itself : (ttlOf (ipv4 1 0 ++ ipv4 2 0) set 0 ≡ refused 24) × (ttlOf (ipv4 1 0 ++ ipv4 2 0 ++ ipv4 1 0) set 0 ≡ value 2)
 not-itself = (refl, refl)
+
+-- types are compared, whatever the octets behind them
+other-type : sameAddress (1 ∷ 0 ∷ 0 ∷ 0 ∷ 192 ∷ []) (3 ∷ 0 ∷ 0 ∷ 0 ∷ 192 ∷ []) ≡ false
+other-type = refl
 
 -- the last hop has none behind it; past it there is no hop; a path of no hops has none; neither has RTM_SET, if it is empty
 ends : (ttlOf hops set 4 ≡ refused 24) × (ttlOf hops set 5 ≡ refused 21) × (ttlOf [] set 0 ≡ refused 21) × (ttlOf hops [] 0 ≡ refused 24)
