@@ -46,6 +46,9 @@ CALL(load_image, table, to->first, in->first_size)
 CALL(join, to->first, in->first_size, to->second, in->second_size, &to->told->joined)
 CALL(address_count, to->first, in->first_size, &to->told->size)
 CALL(address_entry, to->first, in->first_size, in->place, &to->told->part)
+CALL(next_ttl, to->first, in->first_size, to->second, in->second_size, in->place, &to->told->ttl)
+CALL(write_labels, to->first, in->first_size, to->second, in->second_size, in->place, in->label, to->output,
+     in->room)
 
 static uint8_t library_write(struct lent *to, struct rtm_table *table, const struct input *in) {
     (void)table;
@@ -102,10 +105,12 @@ static const struct operation {
     {SAME(join), input_for_pair, 12, "0 " READING " 18 11"},
     {SAME(address_count), input_for_list, 4, "0 19 20"},
     {SAME(address_entry), input_for_list, 4, "0 19 20 21"},
+    {SAME(next_ttl), input_for_path, 12, "0 19 20 21 24"},
+    {SAME(write_labels), input_for_path, 8, "0 19 20 21 24 25 12"},
 };
-enum { OPERATIONS = sizeof operations / sizeof *operations };
+enum { OPERATIONS = sizeof operations / sizeof *operations, DISTANCES = 127 };
 
-static uint64_t seen[OPERATIONS][256];
+static uint64_t seen[OPERATIONS][256], seen_ttl[256];
 
 /* The input that is being tried, for the report. */
 static struct input input;
@@ -128,7 +133,8 @@ static void report(const char *what) {
     printf("%s: %s, input %" PRIu64 " of seed %" PRIu64 "\n", operation->name, what, tried, seed);
     show("first", input.first, input.first_size);
     show("second", input.second, input.second_size);
-    printf("  room %zu, place %zu, %s", input.room, input.place, input.ntp ? "NTP" : "PTP");
+    printf("  room %zu, place %zu, label %" PRIu32, input.room, input.place, input.label);
+    printf(", %s", input.ntp ? "NTP" : "PTP");
     printf(" stamps %" PRIu32 ".%" PRIu32, input.entry.seconds, input.entry.part);
     printf(" and %" PRIu32 ".%" PRIu32 "\n", input.exit.seconds, input.exit.part);
     show("table", &input.table, sizeof input.table);
@@ -253,6 +259,7 @@ static bool is_refusal(uint8_t answer) {
 /* How many octets of the output the library may have changed. */
 static size_t written(uint8_t answer, const struct told *told) {
     if (operation->library == library_two_step) return answer == RTM_CREATED ? RTM_CREATED_SIZE : 0;
+    if (operation->library == library_write_labels) return answer == 0 ? RTM_LABELS_SIZE : 0;
     if (operation->library == library_write || operation->library == library_write_image) {
         return answer == 0 ? told->size : 0;
     }
@@ -290,6 +297,7 @@ static uint8_t compare(const struct memory *library, const struct memory *plain)
     start = written(answer, ours.told);
     if (start > input.room) same("size written", &start, &input.room, sizeof start);
     same("output beyond", ours.output + start, input.output + start, input.room - start);
+    if (operation->library == library_next_ttl && answer == 0) seen_ttl[ours.told->ttl]++;
     return answer;
 }
 
@@ -323,6 +331,14 @@ static int print_answers(void) {
     return missing;
 }
 
+/* Prints how many distances to the next timing node came. Answers how many did not. */
+static int print_distances(void) {
+    int ttl, missing = 0;
+    for (ttl = 1; ttl <= DISTANCES; ttl++) missing += seen_ttl[ttl] == 0;
+    printf("%-14s %d of %d\n", "distances", DISTANCES - missing, DISTANCES);
+    return missing;
+}
+
 int main(int argc, char **argv) {
     uint64_t inputs = argc > 1 ? strtoull(argv[1], NULL, 10) : 100000;
     struct memory library = new_memory(), plain = new_memory();
@@ -336,9 +352,9 @@ int main(int argc, char **argv) {
         operation->input(&input);
         seen[i][compare(&library, &plain)]++;
     }
-    missing = print_answers();
+    missing = print_answers() + print_distances();
     printf("library and plain C agree on %" PRIu64 " inputs of seed %" PRIu64 "\n", inputs, seed);
     if (missing == 0 || inputs < 100000) return 0;
-    printf("%d answers did not come\n", missing);
+    printf("%d answers or distances did not come\n", missing);
     return 1;
 }

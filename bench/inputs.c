@@ -71,6 +71,12 @@ static uint64_t some_units(void) {
     return once_in(16) ? any() : inputs_below(UNITS_LIMIT);
 }
 
+static uint32_t some_label(void) {
+    static const uint32_t ends[] = {0, 15, 16, 1048575, 1048576, UINT32_MAX};
+    if (once_in(4)) return PICK(ends);
+    return once_in(16) ? (uint32_t)any() : 16 + (uint32_t)inputs_below(1048560);
+}
+
 static uint32_t some_part(void) {
     static const uint32_t ends[] = {0, 999999999, 1000000000, UINT32_MAX};
     return once_in(4) ? PICK(ends) : (uint32_t)inputs_below(SECOND);
@@ -331,20 +337,93 @@ void input_for_image(struct input *input) {
     if (once_in(2)) input->first_size = spoil_image(input->first, input->first_size);
 }
 
-void input_for_list(struct input *input) {
+/* Lists. */
+
+/* What stands before an entry's address; the reserved octets stay random. Answers the entry's size. */
+static size_t lay_entry(uint8_t *at, uint8_t type) {
     static const uint8_t sizes[] = {0, 8, 20, 12};
+    at[0] = type;
+    at[1] = sizes[type];
+    return sizes[type];
+}
+
+static size_t damage_list(uint8_t *list, size_t size) {
+    if (once_in(32)) return 0;
+    if (size > 1024 && once_in(2)) size = 1024;
+    if (size > 0 && once_in(8)) size -= inputs_below(size < 20 ? size : 20);
+    if (once_in(8)) list[inputs_below(size + 1)] = (uint8_t)inputs_below(24);
+    return size;
+}
+
+void input_for_list(struct input *input) {
     size_t size = 0, wanted = once_in(4) ? 1000 + inputs_below(30) : inputs_below(once_in(2) ? 50 : 1000);
     random_input(input);
     while (size < wanted) {
         uint8_t type = (uint8_t)(1 + inputs_below(3));
         if (wanted > 1020 && once_in(2)) type = 1;
-        input->first[size] = type;
-        input->first[size + 1] = sizes[type];
-        size += sizes[type];
+        size += lay_entry(input->first + size, type);
     }
-    if (size > 1024 && once_in(2)) size = 1024;
-    if (size > 0 && once_in(8)) size -= inputs_below(size < 20 ? size : 20);
-    if (once_in(8)) input->first[inputs_below(size + 1)] = (uint8_t)inputs_below(24);
-    input->first_size = size;
+    input->first_size = size = damage_list(input->first, size);
     input->place = once_in(8) ? (size_t)any() : inputs_below(size / 8 + 2);
+}
+
+/* Paths. */
+
+enum { MOST_HOPS = 136, STRANGERS = 100 };       /* numbers from MOST_HOPS on are those of no hop */
+
+struct hop {
+    uint8_t type, number;
+};
+
+/* Adds a hop to a list that is not too long. Its address is its number among octets of FF, so that many begin
+   alike, in one type and in different types. */
+static void add_hop(uint8_t *list, size_t *size, uint8_t type, uint64_t number) {
+    uint8_t *at = list + *size;
+    size_t octets;
+    if (*size > 1024) return;
+    octets = lay_entry(at, type) - 4;
+    memset(at + 4, UINT8_MAX, octets);
+    at[4 + number % octets] = (uint8_t)number;
+    *size += 4 + octets;
+}
+
+static void some_hops(struct input *input, struct hop *hop, size_t hops, uint64_t types) {
+    size_t i;
+    for (i = 0; i < hops; i++) {
+        hop[i].type = (uint8_t)(1 + inputs_below(types));
+        hop[i].number = (uint8_t)i;
+        if (i > 0 && once_in(16)) hop[i] = hop[inputs_below(i)];
+        add_hop(input->first, &input->first_size, hop[i].type, hop[i].number);
+    }
+}
+
+/* From the last hop to the first, but none of those between from and to. Strangers are no hop, or have the
+   number of one and another type. */
+static void some_set(struct input *input, const struct hop *hop, size_t hops, size_t from, size_t to) {
+    size_t *size = &input->second_size, strangers = once_in(4) ? inputs_below(1025) : 0;
+    while (*size < strangers) {
+        add_hop(input->second, size, (uint8_t)(1 + inputs_below(3)), MOST_HOPS + inputs_below(STRANGERS));
+    }
+    while (hops-- > 0) {
+        bool in = hops == to || ((hops <= from || hops > to) && once_in(2));
+        if (in) add_hop(input->second, size, hop[hops].type, hop[hops].number);
+        else if (once_in(8)) add_hop(input->second, size, hop[hops].type % 3 + 1, hop[hops].number);
+    }
+}
+
+/* Many hops of type 1, or fewer of all types, with the next timing node at any distance, or with none. */
+void input_for_path(struct input *input) {
+    uint64_t types = once_in(4) ? 3 : 1, most = once_in(6) ? 8 : types == 3 ? 64 : 128;
+    size_t distance = inputs_below(most), from = inputs_below(most - distance);
+    size_t hops = once_in(2) ? most : from + distance + inputs_below(8);
+    size_t ends[] = {0, hops - 1, hops, hops + 1, from + 256, from + (UINT64_C(1) << 32), SIZE_MAX};
+    struct hop hop[MOST_HOPS];
+    random_input(input);
+    some_hops(input, hop, hops, types);
+    some_set(input, hop, hops, from, from + distance);
+    if (once_in(4)) input->first_size = damage_list(input->first, input->first_size);
+    if (once_in(4)) input->second_size = damage_list(input->second, input->second_size);
+    input->place = once_in(8) ? PICK(ends) : from;
+    input->label = some_label();
+    input->room = some_room(RTM_LABELS_SIZE);
 }

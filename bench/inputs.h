@@ -15,13 +15,15 @@ struct told {
     struct rtm_joined joined;
     uint64_t units;
     size_t size;
+    uint8_t ttl;
 };
 
 struct input {
-    uint8_t first[MOST];         /* a message, Sync, carried packet, image or list */
-    uint8_t second[MOST];        /* a Follow_Up */
+    uint8_t first[MOST];         /* a message, Sync, carried packet, image or list; hops */
+    uint8_t second[MOST];        /* a Follow_Up; the RTM_SET of hops */
     uint8_t output[MOST];        /* what the output holds before the call */
     size_t first_size, second_size, room, place;
+    uint32_t label;
     bool null;                   /* hand over NULL for a string of no octets */
     bool ntp;
     struct rtm_stamp entry, exit;
@@ -37,5 +39,6 @@ void input_for_write(struct input *input);
 void input_for_pair(struct input *input);
 void input_for_image(struct input *input);
 void input_for_list(struct input *input);
+void input_for_path(struct input *input);      /* hops, a set, a position, a label and an output */
 
 #endif

@@ -494,3 +494,50 @@ uint8_t plain_address_entry(const uint8_t *list, size_t size, size_t place, stru
     entry->length = list[at + 1];
     return 0;
 }
+
+/* The next timing node, and the label entries that a message goes there with */
+
+enum { ADDRESS = 4, FIRST_LABEL = 16, LAST_LABEL = 1048575 };
+#define GAL_ENTRY UINT32_C(0x0000D101)            /* label 13, bottom of stack, TTL 1 */
+
+/* Of two good entries. The compiler is told how many octets there are, and need not call memcmp. */
+static inline bool same_address(const uint8_t *a, const uint8_t *b) {
+    if (a[0] != b[0]) return false;
+    if (a[0] == 1) return memcmp(a + ADDRESS, b + ADDRESS, 4) == 0;
+    if (a[0] == 2) return memcmp(a + ADDRESS, b + ADDRESS, 16) == 0;
+    return memcmp(a + ADDRESS, b + ADDRESS, 8) == 0;
+}
+
+static inline bool has_address(const uint8_t *list, size_t size, const uint8_t *entry) {
+    size_t at;
+    for (at = 0; at < size; at += list[at + 1]) if (same_address(list + at, entry)) return true;
+    return false;
+}
+
+uint8_t plain_next_ttl(const uint8_t *hops, size_t hops_size, const uint8_t *set, size_t set_size,
+                       size_t position, uint8_t *ttl) {
+    size_t count, in_set, place, at = 0;
+    uint8_t distance, refusal = plain_address_count(hops, hops_size, &count);
+    if (refusal) return refusal;
+    refusal = plain_address_count(set, set_size, &in_set);
+    if (refusal) return refusal;
+    if (position >= count) return RTM_NO_ENTRY;
+    for (place = 0; place <= position; place++) at += hops[at + 1];
+    for (distance = 1; at < hops_size; at += hops[at + 1], distance++) {
+        if (!has_address(set, set_size, hops + at)) continue;
+        *ttl = distance;
+        return 0;
+    }
+    return RTM_NO_TIMING_NODE;
+}
+
+uint8_t plain_write_labels(const uint8_t *hops, size_t hops_size, const uint8_t *set, size_t set_size,
+                           size_t position, uint32_t label, uint8_t *output, size_t room) {
+    uint8_t ttl, refusal = plain_next_ttl(hops, hops_size, set, set_size, position, &ttl);
+    if (refusal) return refusal;
+    if (label < FIRST_LABEL || label > LAST_LABEL) return RTM_LABEL;
+    if (room < RTM_LABELS_SIZE) return RTM_OUTPUT_TOO_SMALL;
+    put32(output, label << 12 | ttl);
+    put32(output + 4, GAL_ENTRY);
+    return 0;
+}

@@ -41,5 +41,9 @@ uint8_t plain_join(const uint8_t *sync, size_t sync_size, const uint8_t *follow_
                    struct rtm_joined *joined);
 uint8_t plain_address_count(const uint8_t *list, size_t size, size_t *count);
 uint8_t plain_address_entry(const uint8_t *list, size_t size, size_t place, struct rtm_part *entry);
+uint8_t plain_next_ttl(const uint8_t *hops, size_t hops_size, const uint8_t *set, size_t set_size,
+                       size_t position, uint8_t *ttl);
+uint8_t plain_write_labels(const uint8_t *hops, size_t hops_size, const uint8_t *set, size_t set_size,
+                           size_t position, uint32_t label, uint8_t *output, size_t room);
 
 #endif

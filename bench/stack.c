@@ -1,7 +1,7 @@
 /*
  * stack [inputs [seed]]: how many octets of stack one call of each function uses, its return address
- * included. Calls on random inputs, and on the list of most entries, run on a stack that was painted before;
- * the deepest word that is no longer paint counts.
+ * included. Calls on random inputs, and on lists of most entries, run on a stack that was painted before; the
+ * deepest word that is no longer paint counts.
  */
 #define _DEFAULT_SOURCE
 #include "inputs.h"
@@ -10,7 +10,7 @@
 #include <string.h>
 #include <ucontext.h>
 
-enum { WORDS = 1 << 13, WORD = 8, INPUTS = 5000 };
+enum { WORDS = 1 << 13, WORD = 8, INPUTS = 5000, ENTRIES = 128, ENTRY = 8 };
 #define PAINT UINT64_C(0xA55AC33C96690FF0)
 
 typedef void function(void);
@@ -42,6 +42,9 @@ CALL(load_image, &input.table, input.first, input.first_size)
 CALL(join, input.first, input.first_size, input.second, input.second_size, &input.told.joined)
 CALL(address_count, input.first, input.first_size, &input.told.size)
 CALL(address_entry, input.first, input.first_size, input.place, &input.told.part)
+CALL(next_ttl, input.first, input.first_size, input.second, input.second_size, input.place, &input.told.ttl)
+CALL(write_labels, input.first, input.first_size, input.second, input.second_size, input.place, input.label,
+     input.output, input.room)
 
 #define MEASURED(name) #name, call_##name, (function *)rtm_##name
 
@@ -65,6 +68,8 @@ static const struct measured {
     {MEASURED(join), input_for_pair},
     {MEASURED(address_count), input_for_list},
     {MEASURED(address_entry), input_for_list},
+    {MEASURED(next_ttl), input_for_path},
+    {MEASURED(write_labels), input_for_path},
 };
 enum { FUNCTIONS = sizeof measured / sizeof *measured };
 
@@ -113,22 +118,34 @@ static long used_by(function *it) {
     return (top - deepest) * WORD;
 }
 
-/* 128 entries, the last of which is asked for. */
-static void longest_list(void) {
-    size_t at;
-    input.first_size = 1024;
-    for (at = 0; at < input.first_size; at += 8) {
-        input.first[at] = 1;
-        input.first[at + 1] = 8;
-    }
-    input.place = 127;
+static void lay_entry(uint8_t *at, size_t number) {
+    static const uint8_t octets[ENTRY] = {1, ENTRY};
+    memcpy(at, octets, ENTRY);
+    at[ENTRY - 1] = (uint8_t)number;
 }
 
+/* Lists of 128 entries. The last of the first stands at the end of the second if it is to be found there, and
+   no other does. */
+static void longest_lists(size_t place, bool found) {
+    size_t i;
+    input.first_size = input.second_size = ENTRIES * ENTRY;
+    for (i = 0; i < ENTRIES; i++) {
+        bool same = found && i == ENTRIES - 1;
+        lay_entry(input.first + i * ENTRY, i);
+        lay_entry(input.second + i * ENTRY, same ? i : ENTRIES + i);
+    }
+    input.place = place;
+    input.label = 16;
+    input.room = RTM_LABELS_SIZE;
+}
+
+/* On the longest lists, for every place, and on random inputs. */
 static long most_used(long inputs) {
-    long used, most = 0;
-    for (; inputs >= 0; inputs--) {
+    bool lists = now->input == input_for_list || now->input == input_for_path;
+    long i, used, most = 0;
+    for (i = lists ? -2 * ENTRIES : 0; i < inputs; i++) {
         now->input(&input);
-        if (inputs == 0 && now->input == input_for_list) longest_list();
+        if (i < 0) longest_lists((size_t)-i % ENTRIES, i < -ENTRIES);
         used = used_by(now->library);
         if (used > most) most = used;
     }

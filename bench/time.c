@@ -10,6 +10,7 @@
 #include <stdlib.h>
 
 enum { PACKET = 44, ENTRIES = 51, ENTRY = 20, TICKS = 250, PAGE = 4096 };
+enum { IPV4 = 1, IPV6 = 2, IPV4_ENTRY = 8, HOPS = 5, IN_SET = 3, LABEL = 299776 };
 
 /* From libby_value.a: `count` pairs at a two-step node, called from Rattle code with the table by value or
    lent. They answer how many pairs went well. */
@@ -21,6 +22,7 @@ uint64_t bench_pairs_lent(uint8_t *sync, size_t sync_size, uint8_t *follow_up, s
 /* What the calls are lent. */
 static uint8_t sync[MESSAGE], clear[MESSAGE], follow_up[MESSAGE];     /* Sync with S set, and with S clear */
 static uint8_t packet[PACKET], output[RTM_LARGEST_MESSAGE], image[RTM_IMAGE_SIZE], list[ENTRIES * ENTRY];
+static uint8_t hops[ENTRIES * ENTRY], set[ENTRIES * ENTRY], ttl;
 static const struct rtm_stamp entry = {100, 999999000}, leave = {101, 500};
 static struct rtm_fields fields;
 static struct rtm_joined joined;
@@ -45,16 +47,22 @@ static void lay_tables(int others, uint8_t wait) {
     library_table.number = plain_table.number = (uint8_t)others;
 }
 
+/* An entry whose address differs from others of its type in the last octet, as within a network. */
+static void lay_entry(uint8_t *at, uint8_t type, uint8_t octets, int number) {
+    memset(at, 0, octets);
+    at[0] = type;
+    at[1] = octets;
+    at[4] = 0x20;
+    at[octets - 1] = (uint8_t)number;
+}
+
 static void lay_messages(void) {
     int i;
     lay_message(sync, 0x80, 0);
     lay_message(clear, 0, 0);
     lay_message(follow_up, 0x80, 8);
     rtm_read(sync, MESSAGE, &fields);
-    for (i = 0; i < ENTRIES; i++) {
-        list[i * ENTRY] = 2;
-        list[i * ENTRY + 1] = ENTRY;
-    }
+    for (i = 0; i < ENTRIES; i++) lay_entry(list + i * ENTRY, IPV6, ENTRY, i);
 }
 
 static void prepare(void) {
@@ -70,6 +78,22 @@ static void prepare_15(void) {
 static void prepare_16(void) {
     lay_tables(16, 3);
     rtm_write_image(&library_table, image, sizeof image, &size);
+}
+
+/* Of the hops only the last is in the set, which goes from egress to ingress: it stands first there. */
+static void prepare_last(void) {
+    int i;
+    for (i = 0; i < ENTRIES; i++) {
+        lay_entry(hops + i * ENTRY, IPV6, ENTRY, i);
+        lay_entry(set + i * ENTRY, IPV6, ENTRY, i == 0 ? ENTRIES - 1 : ENTRIES + i);
+    }
+}
+
+/* Every second hop is in the set. */
+static void prepare_few(void) {
+    int i;
+    for (i = 0; i < HOPS; i++) lay_entry(hops + i * IPV4_ENTRY, IPV4, IPV4_ENTRY, i);
+    for (i = 0; i < IN_SET; i++) lay_entry(set + i * IPV4_ENTRY, IPV4, IPV4_ENTRY, HOPS - 1 - 2 * i);
 }
 
 static void prepare_ticks(void) {
@@ -103,6 +127,9 @@ LOOP(write, 0, write, &fields, packet, PACKET, output, sizeof output, &size)
 LOOP(write_image, 0, write_image, table, output, sizeof output, &size)
 LOOP(load_image, 0, load_image, table, image, sizeof image)
 LOOP(address_count, 0, address_count, list, sizeof list, &size)
+LOOP(next_ttl, 0, next_ttl, hops, sizeof hops, set, sizeof set, 0, &ttl)
+LOOP(write_labels, 0, write_labels, hops, HOPS * IPV4_ENTRY, set, IN_SET * IPV4_ENTRY, 0, LABEL, output,
+     sizeof output)
 
 /* S is cleared again before each call. */
 LOOP(created, RTM_CREATED, two_step, table, (clear[20] = 0, clear), MESSAGE, output, sizeof output, RTM_PTP,
@@ -197,6 +224,8 @@ static const struct timed rows[] = {
     {"image written, 16 records", prepare_16, own_write_image, library_write_image},
     {"image loaded, 16 records", prepare_16, own_load_image, library_load_image},
     {"address list counted, 51 entries", prepare, own_address_count, library_address_count},
+    {"next TTL, 51 hops, 51 in RTM_SET", prepare_last, own_next_ttl, library_next_ttl},
+    {"label entries, 5 hops, 3 in RTM_SET", prepare_few, own_write_labels, library_write_labels},
     {"from Rattle: Sync and Follow_Up, lent", prepare, own_pair, lent_from_rattle},
     {"from Rattle: the same, table by value", prepare, own_pair, by_value},
     {"  where a copy crosses a page", prepare, own_pair, by_value_across},

@@ -7,7 +7,7 @@
 #include <stdlib.h>
 #include <time.h>
 
-enum { CALLS = 10000 };
+enum { CALLS = 10000, FEW = CALLS / 50, SLOW = 500000 };
 
 static double now(void) {
     struct timespec time;
@@ -15,15 +15,17 @@ static double now(void) {
     return (double)time.tv_sec * 1e9 + (double)time.tv_nsec;
 }
 
-/* The nanoseconds of one call, if they are fewer than the least so far. */
+/* The nanoseconds of one call, if they are fewer than the least so far. Where a few calls take long, no more
+   are timed. */
 static void run(const struct timed *row, uint64_t (*loop)(uint64_t), double *least) {
-    uint64_t wrong;
-    double start, each;
+    uint64_t wrong, calls;
+    double start = now(), each;
     row->prepare();
-    wrong = loop(CALLS / 50);
+    wrong = loop(FEW);
+    calls = now() - start < SLOW ? CALLS : FEW;
     start = now();
-    wrong += loop(CALLS);
-    each = (now() - start) / CALLS;
+    wrong += loop(calls);
+    each = (now() - start) / (double)calls;
     if (wrong != 0) {
         printf("%s: %lu calls answered otherwise\n", row->name, (unsigned long)wrong);
         exit(1);

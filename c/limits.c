@@ -35,6 +35,10 @@ static bool as_it_came(const void *memory, size_t size) {
 static const uint8_t octets[36] = {
     0x10, 0, 0, 15, 0, 0, 0, 0, 0, 0, 0, 0, 0, 3, 0, 20,
     0, 1, 0, 20, 0x80, 0, 0, 0, 1, 2, 3, 4, 5, 6, 7, 8, 0, 9, 1, 2};
+/* Two hops, and a set of the second with other octets in what is reserved. */
+static const uint8_t hops[16] = {1, 8, 0, 0, 192, 0, 2, 1, 1, 8, 0, 0, 192, 0, 2, 2};
+static const uint8_t set[8] = {1, 8, 0xFF, 0xFF, 192, 0, 2, 2};
+enum { LABEL = 16, LAST_LABEL = 1048575 };
 static const struct rtm_stamp entry = {10, 999999000}, leave = {11, 500}, bad = {11, 1000000000};
 
 static uint8_t *message_of(uint8_t *message, uint8_t flags, uint8_t ptp_type) {
@@ -84,7 +88,7 @@ static void members(void) {
 
 /* NULL for every string, with a length of 0. */
 static void no_octets(void) {
-    uint8_t message[36], output[64];
+    uint8_t message[36], output[64], ttl;
     struct rtm_fields fields;
     struct rtm_joined joined;
     struct rtm_table table;
@@ -109,6 +113,11 @@ static void no_octets(void) {
     CHECK(rtm_join(message, 36, NULL, 0, &joined) == RTM_TOO_SHORT);
     CHECK(rtm_address_count(NULL, 0, &size) == 0 && size == 0);
     CHECK(rtm_address_entry(NULL, 0, 0, &part) == RTM_NO_ENTRY);
+    CHECK(rtm_next_ttl(NULL, 0, NULL, 0, 0, &ttl) == RTM_NO_ENTRY);
+    CHECK(rtm_next_ttl(hops, 8, NULL, 0, 0, &ttl) == RTM_NO_TIMING_NODE);
+    CHECK(rtm_write_labels(NULL, 0, NULL, 0, 0, LABEL, NULL, 0) == RTM_NO_ENTRY);
+    CHECK(rtm_write_labels(hops, 8, NULL, 0, 0, LABEL, NULL, 0) == RTM_NO_TIMING_NODE);
+    CHECK(rtm_write_labels(hops, 16, set, 8, 0, LABEL, NULL, 0) == RTM_OUTPUT_TOO_SMALL);
 }
 
 /* A refusal leaves the places for an answer, the output, the message and the table as they came. */
@@ -158,6 +167,31 @@ static void refused_messages(void) {
     CHECK(memcmp(message, before, sizeof before) == 0 && STAYED(table) && STAYED(output));
 }
 
+/* Refusals for a path, each where those after it apply too. */
+static void refused_paths(void) {
+    static const uint8_t zeros[2][1025] = {{0}};
+    uint8_t ttl, output[8];
+    LAY(ttl), LAY(output);
+    CHECK(rtm_next_ttl(zeros[0], 1025, zeros[1], 1024, 2, &ttl) == RTM_LIST_TOO_LONG);
+    CHECK(rtm_next_ttl(zeros[0], 1024, zeros[1], 1025, 2, &ttl) == RTM_BAD_ENTRY);
+    CHECK(rtm_next_ttl(hops, 16, zeros[1], 1025, 2, &ttl) == RTM_LIST_TOO_LONG);
+    CHECK(rtm_next_ttl(hops, 16, zeros[1], 1024, 2, &ttl) == RTM_BAD_ENTRY);
+    CHECK(rtm_next_ttl(hops, 16, set, 8, 2, &ttl) == RTM_NO_ENTRY);
+    CHECK(rtm_next_ttl(hops, 16, set, 8, SIZE_MAX, &ttl) == RTM_NO_ENTRY);
+    CHECK(rtm_next_ttl(hops, 16, set, 8, 1, &ttl) == RTM_NO_TIMING_NODE && STAYED(ttl));
+    CHECK(rtm_write_labels(zeros[0], 1025, set, 7, 2, 0, output, 7) == RTM_LIST_TOO_LONG);
+    CHECK(rtm_write_labels(hops, 15, zeros[1], 1025, 2, 0, output, 7) == RTM_BAD_ENTRY);
+    CHECK(rtm_write_labels(hops, 16, zeros[1], 1025, 2, 0, output, 7) == RTM_LIST_TOO_LONG);
+    CHECK(rtm_write_labels(hops, 16, set, 7, 2, 0, output, 7) == RTM_BAD_ENTRY);
+    CHECK(rtm_write_labels(hops, 16, set, 8, 2, 0, output, 7) == RTM_NO_ENTRY);
+    CHECK(rtm_write_labels(hops, 16, set, 8, 1, 0, output, 7) == RTM_NO_TIMING_NODE);
+    CHECK(rtm_write_labels(hops, 16, set, 8, 0, LABEL - 1, output, 7) == RTM_LABEL);
+    CHECK(rtm_write_labels(hops, 16, set, 8, 0, LAST_LABEL + 1, output, 7) == RTM_LABEL);
+    CHECK(rtm_write_labels(hops, 16, set, 8, 0, UINT32_MAX, output, 8) == RTM_LABEL);
+    CHECK(rtm_write_labels(hops, 16, set, 8, 0, LABEL, output, 7) == RTM_OUTPUT_TOO_SMALL);
+    CHECK(STAYED(output));
+}
+
 /* Octets beyond what is written, and what is reserved. */
 static void beyond(void) {
     uint8_t message[36], output[400];
@@ -185,13 +219,31 @@ static void beyond(void) {
     CHECK(table.reserved[0] == 0 && table.reserved[126] == 0);
 }
 
+/* Label entries of the lowest and the highest label, one of them at an odd address. */
+static void labels(void) {
+    static const uint8_t lowest[] = {0, 1, 0, 1, 0, 0, 0xD1, 1};
+    static const uint8_t highest[] = {0xFF, 0xFF, 0xF0, 1, 0, 0, 0xD1, 1};
+    uint8_t ttl[3], output[16];
+    LAY(ttl), LAY(output);
+    CHECK(rtm_next_ttl(hops, 16, set, 8, 0, ttl + 1) == 0 && ttl[1] == 1);
+    CHECK(as_it_came(ttl, 1) && as_it_came(ttl + 2, 1));
+    CHECK(rtm_write_labels(hops, 16, set, 8, 0, LABEL, output, RTM_LABELS_SIZE) == 0);
+    CHECK(memcmp(output, lowest, sizeof lowest) == 0 && as_it_came(output + 8, 8));
+    LAY(output);
+    CHECK(rtm_write_labels(hops, 16, set, 8, 0, LAST_LABEL, output + 1, 15) == 0);
+    CHECK(memcmp(output + 1, highest, sizeof highest) == 0 && as_it_came(output, 1));
+    CHECK(as_it_came(output + 9, 7));
+}
+
 int main(void) {
     layout();
     members();
     no_octets();
     refusals();
     refused_messages();
+    refused_paths();
     beyond();
+    labels();
     printf("limits: %d checked\n", checked);
     return wrong;
 }
