@@ -1,19 +1,19 @@
 -- The two entries written are taken apart again: `LabelsReadBack`.
 -- Assumes nothing.
-use Prim.Native.Nat.{ℕ, _+_, _*_, _/_, _%_, _<_, _≤_, _^_}
-use mathlib.Core.Path.{_≡_, refl, sym, ap, _∙_}
+use Prim.Native.Nat.{ℕ, _+_, _*_, _/_, _%_, _<_, _^_}
+use mathlib.Core.Path.{_≡_, refl, ap, _∙_}
 use mathlib.Core.Bool.{Bool, true, false, _||_, true≢false}
 use mathlib.Core.List.{List, [], _++_, append-assoc}
 use native.Mathlib.Omega.{arith}
 use borrow.Author.Tests.{ne-eqb, ltb-false}
 use lib.Dec.{ltb}
 use lib.ListN.{length, drop}
-use Rattle.octets.specs.Octets.{number, octets}
+use Rattle.octets.specs.Octets.{octets}
 use Rattle.octets.proofs.Numbers.{length-octets, number-octets}
 use Rattle.refusal.specs.Answer.{Answer, value, refused, andThen, refuse}
 use Rattle.refusal.proofs.Answers.{not-both, same-value, passes}
 use Rattle.label_stack.specs.Ttl.{ttlOf}
-use Rattle.label_stack.specs.Labels.{LabelEntry, entryBits, entryOctets, fieldsOf, entryAt, lspEntry, gAchEntry, labelOctets, labelled, outputBy, labelsOf}
+use Rattle.label_stack.specs.Labels.{entryBits, fieldsOf, entryAt, lspEntry, gAchEntry, labelOctets, labelled}
 use Rattle.label_stack.specs.Promises.{LabelsReadBack}
 use Rattle.label_stack.proofs.Nearest.{ttl-fits}
 

@@ -1,8 +1,8 @@
 -- The walks over the two lists: the entries behind an octet, and the hops that were searched in vain.
 -- Assumes nothing.
-use Prim.Native.Nat.{ℕ, zero, suc, _+_, _-_, _<_, _≤_}
+use Prim.Native.Nat.{ℕ, suc, _+_, _-_, _<_, _≤_}
 use mathlib.Core.Path.{_≡_, refl, sym, ap, _∙_}
-use mathlib.Core.Bool.{Bool, true, false, cond, _&&_, _||_, true≢false, and-eq-true-iff}
+use mathlib.Core.Bool.{true, false, cond, true≢false, and-eq-true-iff}
 use mathlib.Core.List.{List, [], _∷_}
 use mathlib.Core.Option.{Option, none, some}
 use native.Mathlib.Omega.{arith}
@@ -10,22 +10,22 @@ use native.Mathlib.Numerals.{add-one}
 use borrow.Author.Tests.{lt-ltb, ltb-true, lt-leb}
 use lib.Dec.{ltb}
 use lib.ListN.{length, getD, take, drop, length-drop, drop-of-length-le}
-use lib.Seq.{drop-cons, drop-drop, length-take-le}
-use Rattle.octets.proofs.Stores.{rest}
-use Rattle.refusal.specs.Answer.{value, refused, andThen}
+use lib.Seq.{drop-cons, drop-drop, getD-drop, length-take-le}
+use Rattle.refusal.specs.Answer.{refused, andThen}
 use Rattle.rtm_set.specs.Entries.{frontSize, isEntry, entriesOf, entriesIn}
 use Rattle.rtm_set.proofs.Rest.{Front, front}
 use Rattle.rtm_set.proofs.Counts.{front-least}
-use Rattle.rtm_set.proofs.Sound.{Sound, no-octets, entry-first, rest-sound, first-rest}
-use Rattle.label_stack.specs.Ttl.{sameAddress, occurs, timingAt, nextTiming, found, searched, ttlOf}
+use Rattle.rtm_set.proofs.Sound.{Sound, entry-first, rest-sound, first-rest}
+use Rattle.label_stack.specs.Ttl.{occurs, timingAt, nextTiming, found, searched, ttlOf}
 use Rattle.label_stack.proofs.Least.{NonePasses, least-is, least-none}
 
--- an entry at octet i of a list, of the size n that was told of the part from there on
-pub entry-at : (s : List ℕ) (i n : ℕ) → Sound (drop i s) → i < length s
-    → n ≡ cond (isEntry (take (length s - i) (drop i s))) (frontSize (take (length s - i) (drop i s))) 0
-    → Front (drop i s) n
-entry-at s i n sound h e =
-    front (drop i s) n (e ∙ ap (λ (r : List ℕ). cond (isEntry r) (frontSize r) 0) (rest s i)) (entry-first (drop i s) sound (λ z. omega (arith, length-drop i s)))
+-- an entry stands at octet i of a list, and its second octet tells its length
+pub entry-at : (s : List ℕ) (i : ℕ) → Sound (drop i s) → i < length s → Front (drop i s) (getD s (i + 1) 0)
+entry-at s i sound h =
+    let n = frontSize (drop i s) in
+    let is = entry-first (drop i s) sound (λ z. omega (arith, length-drop i s)) in
+    let size : n ≡ cond (isEntry (drop i s)) n 0 = rw is in
+    front (drop i s) (getD s (i + 1) 0) (sym (getD-drop i s 1 0) ∙ front (drop i s) n size is .told ∙ size) is
 
 -- the entry as the code makes it, a part from octet i to octet i + n
 pub part-at : (s : List ℕ) (i n : ℕ) → take (i + n - i) (drop i s) ≡ take n (drop i s)
@@ -34,9 +34,9 @@ part-at s i n = let e : i + n - i ≡ n = omega arith in rw e
 pub part-length : (s : List ℕ) (i n : ℕ) → Front (drop i s) n → 4 ≤ length (take (i + n - i) (drop i s))
 part-length s i n f = rw (part-at s i n, length-take-le n (drop i s) (f .fits)) (omega (arith, front-least (drop i s) n f))
 
--- and it ends within the list
-pub entry-ends : (s : List ℕ) (i n : ℕ) → i < length s → Front (drop i s) n → i + n ≤ length s
-entry-ends s i n h f = omega (arith, f .fits, length-drop i s)
+-- it has eight octets or more, and ends within the list
+pub entry-ends : (s : List ℕ) (i n : ℕ) → i < length s → Front (drop i s) n → (i + n ≤ length s) × (8 ≤ n)
+entry-ends s i n h f = (omega (arith, f .fits, length-drop i s), front-least (drop i s) n f)
 
 -- the list behind it
 pub sound-behind : (s : List ℕ) (i n : ℕ) → Sound (drop i s) → Front (drop i s) n → Sound (drop (i + n) s)

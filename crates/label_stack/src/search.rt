@@ -33,7 +33,7 @@ fn occurs(hop: &[u8], set: &[u8]) -> bool
 {
     let mut at = 0;
     while at < set.len() {
-        let size = rtm_set::front_size(&set[at..]);
+        let size = set[at + layout::LENGTH] as usize;
         if same_address(hop, &set[at..at + size]) {
             return true;
         }
@@ -53,7 +53,7 @@ fn search(hops: &[u8], set: &[u8], position: usize, count: usize) -> Ttl
     let mut at = 0;
     let mut place = 0;
     while at < hops.len() {
-        let size = rtm_set::front_size(&hops[at..]);
+        let size = hops[at + layout::LENGTH] as usize;
         if position < place {
             if occurs(&hops[at..at + size], set) {
                 return Ttl::Distance((place - position) as u8);

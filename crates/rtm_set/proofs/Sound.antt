@@ -17,10 +17,6 @@ use Rattle.rtm_set.proofs.Counts.{counted, count-few}
 abbrev pub Sound : List ℕ → Type 0
 Sound s = value (entriesIn s) ≡ entriesOf s
 
--- a list whose entries are known is sound
-pub known-sound : (s : List ℕ) (es : List (List ℕ)) → entriesOf s ≡ value es → Sound s
-known-sound s es e = ap value (ap entriesBy e) ∙ sym e
-
 -- a list that could be counted is sound, and has as many entries
 pub counted-sound : (s : List ℕ) (n : ℕ) → countOf s ≡ value n → Sound s × (n ≡ length (entriesIn s))
 counted-sound s n e = go (entriesOf s) e
@@ -59,9 +55,6 @@ refused-number s n e = go (ltb 1024 (length s)) (entriesWithin (length s) s) (re
     go true a h q = let z : 19 ≡ n = cc in omega arith
     go false (value es) h q = absurd (not-both (sym q))
     go false (refused m) h q = let z : m ≡ n = cc in omega arith
-
-pub no-octets : (s : List ℕ) → length s ≡ 0 → entriesIn s ≡ []
-no-octets s e = rw e
 
 module _ (s : List ℕ) (sound : Sound s) where
   not-refused : (n : ℕ) → entriesOf s ≡ refused n → ⊥

@@ -9,6 +9,5 @@ pub use answers::Located;
 pub use answers::Lookup;
 pub use list::count;
 pub use list::entry;
-pub use list::front_size;
 pub use list::locate;
 pub use list::lookup;

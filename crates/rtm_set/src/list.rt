@@ -29,7 +29,7 @@ fn entry_size(entry_type: u8) -> usize
 
 // The size of the entry at the front; 0 where there is none, or one cut short, of unknown type or
 // of wrong length.
-pub fn front_size(list: &[u8]) -> usize
+fn front(list: &[u8]) -> usize
     ensures { λ r. ⌜ r ≡ cond (isEntry (now (list .entry))) (frontSize (now (list .entry))) 0 ⌝ }
 {
     if list.len() <= layout::LENGTH {
@@ -53,7 +53,7 @@ fn count_rest(list: &[u8]) -> Count
     if list.len() == 0 {
         return Count::Entries(0);
     }
-    let size = front_size(list);
+    let size = front(list);
     if size == 0 {
         return Count::Refused(refusal::BAD_ENTRY);
     }
@@ -96,7 +96,7 @@ fn locate_rest(list: &[u8], place: usize, offset: usize) -> Located
     requires { ⌜ value (partBy (entryOf (now list) place)) ≡ entryOf (now list) place ⌝ }
     ensures { λ r. ⌜ locatedAnswer r ≡ behind offset (partOf (now (list .entry)) place) ⌝ }
 {
-    let size = front_size(list);
+    let size = front(list);
     if place == 0 {
         return Located::At(offset, size);
     }

@@ -1,7 +1,7 @@
 -- `write` meets its contract: what the search answered decides, then the entries.
 -- Assumes nothing.
 use Prim.Native.Nat.{ℕ}
-use mathlib.Core.Path.{_≡_, sym, ap, _∙_}
+use mathlib.Core.Path.{sym, ap, _∙_}
 use lib.ListN.{length}
 use Rattle.refusal.specs.Answer.{Answer, andThen}
 use Rattle.label_stack.specs.Labels.{labelled, labelsBy}

@@ -1,6 +1,6 @@
 -- `next_ttl` meets its contract: what counting the hops told decides.
 -- Assumes nothing.
-use mathlib.Core.Path.{_≡_, sym, ap, _∙_}
+use mathlib.Core.Path.{sym, ap, _∙_}
 use Rattle.rtm_set.specs.Answers.{countAnswer}
 use Rattle.rtm_set.proofs.Sound.{counted-sound, counted-refused}
 use Rattle.label_stack.proofs.Walk.{hops-refused}

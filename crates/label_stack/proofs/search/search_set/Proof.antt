@@ -1,6 +1,6 @@
 -- `search_set` meets its contract: the list of hops is sound, and what counting the other told decides.
 -- Assumes nothing.
-use mathlib.Core.Path.{_≡_, sym, ap, _∙_}
+use mathlib.Core.Path.{sym, ap, _∙_}
 use Rattle.rtm_set.specs.Answers.{countAnswer}
 use Rattle.rtm_set.proofs.Sound.{Sound, counted-sound, counted-refused}
 use Rattle.label_stack.proofs.Walk.{both-sound, set-refused}

@@ -16,7 +16,7 @@ use Rattle.rtm_set.proofs.Rest.{Front, sized, unsized, entries-bad}
 use Rattle.rtm_set.proofs.Counts.{counted, more, count-none, count-rest, count-few}
 use Rattle.rtm_set.proofs.list.count_rest.Reads as reads
 use Rattle.rtm_set.proofs.list.count_rest.Kinds as kinds
-use Rattle.rtm_set.proofs.list.front_size.Reads as front-reads
+use Rattle.rtm_set.proofs.list.front.Reads as front-reads
 use Rattle.rtm_set.proofs.list.+count_rest.Lts-count_rest as lts
 use Rattle.rtm_set.proofs.list.+count_rest.{statement}
 use Rattle.rtm_set.proofs.list.+count_rest.Tie.{close}
@@ -25,7 +25,7 @@ abbrev octets-left : Measures 1 kinds.ps ℕ
 octets-left κs a = length (a .0 .now)
 
 module _ (t : ℕ) where
-  -- what is given with t octets left, and the calls: `front_size`, and itself with fewer left
+  -- what is given with t octets left, and the calls: `front`, and itself with fewer left
   abbrev given : In 1 kinds.ps
   given = and 1 kinds.ps (is 1 kinds.ps octets-left t) reads.Pre
 
@@ -35,14 +35,14 @@ module _ (t : ℕ) where
   returns : lts.Need-returns calls given reads.Post
   returns c = sym (count-none (c .before .before .args .list .now) (c .if1 .taken))
 
-  front-size-requires : lts.Need-front-size-requires calls given reads.Post
-  front-size-requires c κs = search needs
+  front-requires : lts.Need-front-requires calls given reads.Post
+  front-requires c κs = search needs
 
   returns-2 : lts.Need-returns-2 calls given reads.Post
   returns-2 c =
       let start = c .before .before .before .before in
       let s = start .args .list .now in
-      let none = unsized s (c .before .front-size .result) (c .before .front-size .ensures) (c .if2 .taken) in
+      let none = unsized s (c .before .front .result) (c .before .front .ensures) (c .if2 .taken) in
       sym (ap counted (entries-bad s (start .pre .1) (c .before .before .if1 .left) none))
 
   -- behind the two tests: the list, and the size of the entry at its front
@@ -50,10 +50,10 @@ module _ (t : ℕ) where
   whole c = c .before .before .before .before .args .list .now
 
   abbrev size : lts.Else2 calls given reads.Post → ℕ
-  size c = c .before .front-size .result
+  size c = c .before .front .result
 
   entry : (c : lts.Else2 calls given reads.Post) → Front (whole c) (size c)
-  entry c = sized (whole c) (size c) (c .before .front-size .ensures) (c .if2 .left)
+  entry c = sized (whole c) (size c) (c .before .front .ensures) (c .if2 .left)
 
   sub-count-rest : lts.Need-sub-count-rest calls given reads.Post
   sub-count-rest c = omega (arith, entry c .fits)
@@ -102,7 +102,7 @@ module _ (t : ℕ) where
 pub +count-rest-spec : {M : Type 1} → statement M
 +count-rest-spec = close octets-left λ t. lts.spec (calls t) (given t) reads.Post
     (returns t)
-    (front-size-requires t)
+    (front-requires t)
     (returns-2 t)
     (sub-count-rest t)
     (part-count-rest-start t)

@@ -16,7 +16,7 @@ use Rattle.rtm_set.proofs.Places.{has-front, entry-later}
 use Rattle.rtm_set.proofs.Parts.{part-here, part-later, behind-behind, behind-front}
 use Rattle.rtm_set.proofs.list.locate_rest.Reads as reads
 use Rattle.rtm_set.proofs.list.locate_rest.Kinds as kinds
-use Rattle.rtm_set.proofs.list.front_size.Reads as front-reads
+use Rattle.rtm_set.proofs.list.front.Reads as front-reads
 use Rattle.rtm_set.proofs.list.+locate_rest.Lts-locate_rest as lts
 use Rattle.rtm_set.proofs.list.+locate_rest.{statement}
 use Rattle.rtm_set.proofs.list.+locate_rest.Tie.{close}
@@ -25,34 +25,34 @@ abbrev octets-left : Measures 1 kinds.ps ℕ
 octets-left κs a = length (a .0 .now)
 
 module _ (t : ℕ) where
-  -- what is given with t octets left, and the calls: `front_size`, and itself with fewer left
+  -- what is given with t octets left, and the calls: `front`, and itself with fewer left
   abbrev given : In 1 kinds.ps
   given = and 1 kinds.ps (is 1 kinds.ps octets-left t) reads.Pre
 
   abbrev calls : lts.Claims
   calls = (front-reads.Asked, front-reads.Learnt, and 1 kinds.ps (falls 1 kinds.ps _<_ octets-left t) reads.Pre, reads.Post)
 
-  front-size-requires : lts.Need-front-size-requires calls given reads.Post
-  front-size-requires c κs = search needs
+  front-requires : lts.Need-front-requires calls given reads.Post
+  front-requires c κs = search needs
 
-  -- behind `front_size`: the list, the place, the octets before, and the size of the entry at the front
-  abbrev whole : lts.After-front-size calls given reads.Post → List ℕ
+  -- behind `front`: the list, the place, the octets before, and the size of the entry at the front
+  abbrev whole : lts.After-front calls given reads.Post → List ℕ
   whole c = c .before .before .args .list .now
 
-  abbrev place : lts.After-front-size calls given reads.Post → ℕ
+  abbrev place : lts.After-front calls given reads.Post → ℕ
   place c = c .before .before .args .place
 
-  abbrev offset : lts.After-front-size calls given reads.Post → ℕ
+  abbrev offset : lts.After-front calls given reads.Post → ℕ
   offset c = c .before .before .args .offset
 
-  abbrev size : lts.After-front-size calls given reads.Post → ℕ
-  size c = c .front-size .result
+  abbrev size : lts.After-front calls given reads.Post → ℕ
+  size c = c .front .result
 
-  has : (c : lts.After-front-size calls given reads.Post) → value (partBy (entryOf (whole c) (place c))) ≡ entryOf (whole c) (place c)
+  has : (c : lts.After-front calls given reads.Post) → value (partBy (entryOf (whole c) (place c))) ≡ entryOf (whole c) (place c)
   has c = c .before .before .pre .1 .1
 
-  entry : (c : lts.After-front-size calls given reads.Post) → Front (whole c) (size c)
-  entry c = front (whole c) (size c) (c .front-size .ensures) (has-front (whole c) (place c) (has c))
+  entry : (c : lts.After-front calls given reads.Post) → Front (whole c) (size c)
+  entry c = front (whole c) (size c) (c .front .ensures) (has-front (whole c) (place c) (has c))
 
   returns : lts.Need-returns calls given reads.Post
   returns c =
@@ -112,7 +112,7 @@ module _ (t : ℕ) where
 
 pub +locate-rest-spec : {M : Type 1} → statement M
 +locate-rest-spec = close octets-left λ t. lts.spec (calls t) (given t) reads.Post
-    (front-size-requires t)
+    (front-requires t)
     (returns t)
     (sub-locate-rest t)
     (part-locate-rest-start t)

@@ -1,4 +1,4 @@
--- `front_size` meets its contract: its tests are those of `isEntry`.
+-- `front` meets its contract: its tests are those of `isEntry`.
 -- Assumes nothing.
 use native.Mathlib.Omega.{arith}
 use Prim.Native.Nat.{ℕ, zero, suc, _≤_}
@@ -11,8 +11,8 @@ use lib.ListN.{length, getD, List·getD-eq-default}
 use Rattle.rtm_set.specs.Entries.{frontSize, isEntry}
 use Rattle.rtm_set.proofs.Rest.{front}
 use borrow.Author.Needs.{needs}
-use Rattle.rtm_set.proofs.list.front_size.Statement.{statement}
-use Rattle.rtm_set.proofs.list.front_size.Tie as tie
+use Rattle.rtm_set.proofs.list.front.Statement.{statement}
+use Rattle.rtm_set.proofs.list.front.Tie as tie
 
 -- the length is 0 where its octet is past the end
 no-length : (s : List ℕ) → length s ≤ 1 → 0 ≡ cond (isEntry s) (frontSize s) 0
@@ -61,8 +61,8 @@ returns-4 c =
     c .before .before .before .entry-size .ensures
     ∙ simp (eq-eqb (getD s 1 0) n (omega arith), le-leb n (length s) (omega arith)) (same-size n)
 
-pub front-size-spec : {M : Type 1} → statement M
-front-size-spec =
+pub front-spec : {M : Type 1} → statement M
+front-spec =
     tie.close
     (tie.spec
     returns
