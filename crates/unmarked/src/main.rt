@@ -9,6 +9,7 @@ mod lengths;
 mod limits;
 mod messages;
 mod numbers;
+mod paths;
 mod residences;
 mod switchovers;
 mod waits;
@@ -25,4 +26,5 @@ fn main() {
     ends::run();
     numbers::run();
     in_words::run();
+    paths::run();
 }
