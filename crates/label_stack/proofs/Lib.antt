@@ -1,4 +1,5 @@
 pub mod Examples
+pub mod Instances
 pub mod Least
 pub mod Nearest
 pub mod ReadBack
