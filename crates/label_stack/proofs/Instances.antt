@@ -2,7 +2,7 @@
 -- Assumes nothing.
 use Prim.Native.Nat.{ℕ, zero, suc, _<_}
 use mathlib.Core.Path.{_≡_, refl}
-use mathlib.Core.List.{List, [], _∷_, _++_, List·Permᴰ·swap}
+use mathlib.Core.List.{List, _++_, List·Permᴰ·swap}
 use native.Mathlib.Omega.{arith}
 use lib.ListN.{replicate}
 use Rattle.refusal.specs.Answer.{value, refused}
@@ -24,7 +24,7 @@ none-nearer = nearest hops set 0 3 .0 refl .2
 next-hop : ttlOf (ipv4 2 0 ++ ipv4 1 0) set 0 ≡ value 1
 next-hop =
     nearest (ipv4 2 0 ++ ipv4 1 0) set 0 1 .1
-    (record { hopsRead = refl; setRead = refl; below = omega arith })
+    (record { hops = refl; set = refl; onPath = omega arith })
     (record { later = omega arith; onPath = omega arith; inSet = record { place = 0; below = omega arith; type = refl; address = refl } })
     (λ e l t. omega (arith, t .later))
 
@@ -33,11 +33,11 @@ none-behind : (d : ℕ) → TimingBehind hops set 4 d → ⊥
 none-behind = none-later hops set 4 .0 refl .1
 
 one-hop : ttlOf (ipv4 1 0) set 0 ≡ refused 24
-one-hop = none-later (ipv4 1 0) set 0 .1 (record { hopsRead = refl; setRead = refl; below = omega arith }) (λ d t. omega (arith, t .later, t .onPath))
+one-hop = none-later (ipv4 1 0) set 0 .1 (record { hops = refl; set = refl; onPath = omega arith }) (λ d t. omega (arith, t .later, t .onPath))
 
 -- `SetOrderFree`: RTM_SET from ingress to egress
 other-order : ttlOf hops set 0 ≡ ttlOf hops (ipv4 3 0 ++ ipv4 1 5) 0
-other-order = set-order-free hops set (ipv4 3 0 ++ ipv4 1 5) (ipv4 1 5 ∷ ipv4 3 0 ∷ []) (ipv4 3 0 ∷ ipv4 1 5 ∷ []) 0 refl refl (List·Permᴰ·swap refl refl)
+other-order = set-order-free hops set (ipv4 3 0 ++ ipv4 1 5) 0 refl refl (List·Permᴰ·swap refl refl)
 
 -- `TtlFits`: 127 comes
 abbrev alike : ℕ → List ℕ

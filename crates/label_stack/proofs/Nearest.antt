@@ -90,7 +90,7 @@ module _ (h s : List ℕ) (p : ℕ) where
   reached : (o : Option ℕ) → ttlOf h s p ≡ found o → Searchable h s p × (nextTiming hops set p ≡ o)
   reached o e =
       let r = go (entriesOf h) (entriesOf s) (refused-number h) (refused-number s) e in
-      (record { hopsRead = r .0; setRead = r .1; below = r .2 }, r .3)
+      (record { hops = r .0; set = r .1; onPath = r .2 }, r .3)
     where
       here : (hs es : List (List ℕ)) (past : Bool) → leb (length hs) p ≡ past → refuse 21 past (found (nextTiming hs es p)) ≡ found o
           → (p < length hs) × (nextTiming hs es p ≡ o)
@@ -99,7 +99,7 @@ module _ (h s : List ℕ) (p : ℕ) where
 
       go : (a b : Answer (List (List ℕ))) → ((n : ℕ) → a ≡ refused n → n ≤ 20) → ((n : ℕ) → b ≡ refused n → n ≤ 20)
           → andThen a (λ hs. andThen b (λ es. searched hs es p)) ≡ found o
-          → (a ≡ value (entriesBy a)) × (b ≡ value (entriesBy b)) × (p < length (entriesBy a)) × (nextTiming (entriesBy a) (entriesBy b) p ≡ o)
+          → (value (entriesBy a) ≡ a) × (value (entriesBy b) ≡ b) × (p < length (entriesBy a)) × (nextTiming (entriesBy a) (entriesBy b) p ≡ o)
       go (refused n) b f g q = absurd (not-found n o (omega (arith, f n refl)) q)
       go (value hs) (refused n) f g q = absurd (not-found n o (omega (arith, g n refl)) q)
       go (value hs) (value es) f g q =
@@ -107,7 +107,7 @@ module _ (h s : List ℕ) (p : ℕ) where
           (refl, refl, r .0, r .1)
 
   answer-found : (o : Option ℕ) → Searchable h s p → nextTiming hops set p ≡ o → ttlOf h s p ≡ found o
-  answer-found o w e = sym (answered hops set p o (w .below) e ∙ both-sound h s p (sym (w .hopsRead)) (sym (w .setRead)))
+  answer-found o w e = sym (answered hops set p o (w .onPath) e ∙ both-sound h s p (w .hops) (w .set))
 
   -- no later hop nearer than d is a timing node: of the hops, and of the test
   nearer-none : (d : ℕ) → ((e : ℕ) → e < d → TimingAt hops set p e → ⊥) → NonePasses (timingAt hops set p) 1 d
@@ -147,7 +147,7 @@ none-later h s p = (tells-none h s p, none-told h s p)
 pub ttl-fits : TtlFits
 ttl-fits h s p d q =
     let r = nearest h s p d .0 q in
-    let sound = sym (r .0 .hopsRead) in
+    let sound = r .0 .hops in
     omega (arith, r .1 .onPath, entries-few h sound, short h sound)
 
 -- ---- the order of the RTM_SET list
@@ -170,16 +170,16 @@ least-alike t u e zero k = refl
 least-alike t u e (suc n) k = λ i. cond (e k i) (some k) (least-alike t u e n (suc k) i)
 
 pub set-order-free : SetOrderFree
-set-order-free h s r set rearranged p a b d = go (entriesOf h)
+set-order-free h s r p a b d = go (entriesOf h)
   where
-    alike : (hops : List (List ℕ)) → searched hops set p ≡ searched hops rearranged p
+    alike : (hops : List (List ℕ)) → searched hops (entriesIn s) p ≡ searched hops (entriesIn r) p
     alike hops =
         ap (λ (o : Option ℕ). refuse 21 (leb (length hops) p) (found o))
-        (least-alike (timingAt hops set p) (timingAt hops rearranged p) (λ e i. ltb (p + e) (length hops) && occurs-rearranged (getD hops (p + e) []) d i) (length hops) 1)
+        (least-alike (timingAt hops (entriesIn s) p) (timingAt hops (entriesIn r) p) (λ e i. ltb (p + e) (length hops) && occurs-rearranged (getD hops (p + e) []) d i) (length hops) 1)
 
     searchedIn : List (List ℕ) → Answer (List (List ℕ)) → Answer ℕ
     searchedIn hops y = andThen y (λ z. searched hops z p)
 
     go : (x : Answer (List (List ℕ))) → andThen x (λ hops. searchedIn hops (entriesOf s)) ≡ andThen x (λ hops. searchedIn hops (entriesOf r))
     go (refused n) = refl
-    go (value hops) = ap (searchedIn hops) a ∙ alike hops ∙ ap (searchedIn hops) (sym b)
+    go (value hops) = ap (searchedIn hops) (sym a) ∙ alike hops ∙ ap (searchedIn hops) b

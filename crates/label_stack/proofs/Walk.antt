@@ -12,10 +12,10 @@ use lib.Dec.{ltb}
 use lib.ListN.{length, getD, take, drop, length-drop, drop-of-length-le}
 use lib.Seq.{drop-cons, drop-drop, getD-drop, length-take-le}
 use Rattle.refusal.specs.Answer.{refused, andThen}
-use Rattle.rtm_set.specs.Entries.{frontSize, isEntry, entriesOf, entriesIn}
+use Rattle.rtm_set.specs.Entries.{frontSize, isEntry, entriesOf, entriesIn, Sound}
 use Rattle.rtm_set.proofs.Rest.{Front, front}
 use Rattle.rtm_set.proofs.Counts.{front-least}
-use Rattle.rtm_set.proofs.Sound.{Sound, entry-first, rest-sound, first-rest}
+use Rattle.rtm_set.proofs.Sound.{entry-first, rest-sound, first-rest}
 use Rattle.label_stack.specs.Ttl.{occurs, timingAt, nextTiming, found, searched, ttlOf}
 use Rattle.label_stack.proofs.Least.{NonePasses, least-is, least-none}
 

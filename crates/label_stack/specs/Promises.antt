@@ -4,7 +4,7 @@ use mathlib.Core.Path.{_≡_}
 use mathlib.Core.List.{List, [], List·Permᴰ}
 use lib.ListN.{length, getD, drop}
 use Rattle.refusal.specs.Answer.{value, refused}
-use Rattle.rtm_set.specs.Entries.{entriesOf, entriesIn}
+use Rattle.rtm_set.specs.Entries.{entriesIn, Sound}
 use Rattle.label_stack.specs.Ttl.{ttlOf}
 use Rattle.label_stack.specs.Labels.{entryAt, lspEntry, gAchEntry, labelsOf}
 
@@ -27,9 +27,9 @@ TimingBehind h s p d = TimingAt (entriesIn h) (entriesIn s) p d
 
 -- neither list is refused, and the path has a hop at the position
 pub record Searchable (h s : List ℕ) (p : ℕ) : Type 0 where
-  pub hopsRead : entriesOf h ≡ value (entriesIn h)
-  pub setRead : entriesOf s ≡ value (entriesIn s)
-  pub below : p < length (entriesIn h)
+  pub hops : Sound h
+  pub set : Sound s
+  pub onPath : p < length (entriesIn h)
 
 -- The answer is a distance to a later hop that is in RTM_SET, and no nearer later hop is; and whatever distance is such is the answer.
 abbrev pub Nearest : Type 0
@@ -48,10 +48,10 @@ NoneLater =
 -- The order of the RTM_SET list does not matter: the same entries in another order give the same answer.
 abbrev pub SetOrderFree : Type 0
 SetOrderFree =
-    (h s r : List ℕ) (set rearranged : List (List ℕ)) (p : ℕ)
-    → entriesOf s ≡ value set
-    → entriesOf r ≡ value rearranged
-    → List·Permᴰ set rearranged
+    (h s r : List ℕ) (p : ℕ)
+    → Sound s
+    → Sound r
+    → List·Permᴰ (entriesIn s) (entriesIn r)
     → ttlOf h s p ≡ ttlOf h r p
 
 -- A list of at most 1,024 octets has at most 128 entries: the distance fits the TTL's octet.

@@ -4,8 +4,7 @@ use rtm_set::layout;
 ghost use mathlib.Core.Path.{_≡_};
 ghost use Prim.Native.Nat.{_≤_};
 ghost use lib.ListN.{length};
-ghost use Rattle.refusal.specs.Answer.{value};
-ghost use Rattle.rtm_set.specs.Entries.{entriesOf, entriesIn};
+ghost use Rattle.rtm_set.specs.Entries.{entriesIn, Sound};
 ghost use Rattle.label_stack.specs.Ttl.{sameAddress, occurs as occurs·spec, searched, ttlOf};
 ghost use Rattle.label_stack.specs.Answers.{ttlAnswer};
 
@@ -28,7 +27,7 @@ fn same_address(hop: &[u8], entry: &[u8]) -> bool
 
 // Whether a hop's type and address occur in a list that is not refused.
 fn occurs(hop: &[u8], set: &[u8]) -> bool
-    requires { ⌜ (4 ≤ length (now hop)) × (value (entriesIn (now set)) ≡ entriesOf (now set)) ⌝ }
+    requires { ⌜ (4 ≤ length (now hop)) × Sound (now set) ⌝ }
     ensures { λ r. ⌜ r ≡ occurs·spec (now (hop .entry)) (entriesIn (now (set .entry))) ⌝ }
 {
     let mut at = 0;
@@ -44,7 +43,7 @@ fn occurs(hop: &[u8], set: &[u8]) -> bool
 
 // Of two lists that are not refused, the hops so many: refusals 21 and 24. The hops are walked once.
 fn search(hops: &[u8], set: &[u8], position: usize, count: usize) -> Ttl
-    requires { ⌜ (count ≡ length (entriesIn (now hops))) × (value (entriesIn (now hops)) ≡ entriesOf (now hops)) × (value (entriesIn (now set)) ≡ entriesOf (now set)) ⌝ }
+    requires { ⌜ (count ≡ length (entriesIn (now hops))) × Sound (now hops) × Sound (now set) ⌝ }
     ensures { λ r. ⌜ ttlAnswer r ≡ searched (entriesIn (now (hops .entry))) (entriesIn (now (set .entry))) position ⌝ }
 {
     if count <= position {
@@ -54,10 +53,8 @@ fn search(hops: &[u8], set: &[u8], position: usize, count: usize) -> Ttl
     let mut place = 0;
     while at < hops.len() {
         let size = hops[at + layout::LENGTH] as usize;
-        if position < place {
-            if occurs(&hops[at..at + size], set) {
-                return Ttl::Distance((place - position) as u8);
-            }
+        if position < place && occurs(&hops[at..at + size], set) {
+            return Ttl::Distance((place - position) as u8);
         }
         at += size;
         place += 1;
@@ -67,7 +64,7 @@ fn search(hops: &[u8], set: &[u8], position: usize, count: usize) -> Ttl
 
 // Of a list of so many hops that is not refused: RTM_SET's refusals 19 and 20, then 21 and 24.
 fn search_set(hops: &[u8], set: &[u8], position: usize, count: usize) -> Ttl
-    requires { ⌜ (count ≡ length (entriesIn (now hops))) × (value (entriesIn (now hops)) ≡ entriesOf (now hops)) ⌝ }
+    requires { ⌜ (count ≡ length (entriesIn (now hops))) × Sound (now hops) ⌝ }
     ensures { λ r. ⌜ ttlAnswer r ≡ ttlOf (now (hops .entry)) (now (set .entry)) position ⌝ }
 {
     match rtm_set::count(set) {

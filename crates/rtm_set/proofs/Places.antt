@@ -10,10 +10,10 @@ use lib.Dec.{leb·zero, leb·suc-suc, leb}
 use lib.ListN.{length, getD, take, drop}
 use Rattle.refusal.specs.Answer.{Answer, value, refused, refuse, andThen}
 use Rattle.refusal.proofs.Answers.{not-both}
-use Rattle.rtm_set.specs.Entries.{isEntry, entriesOf, entriesBy, entryOf, partBy}
+use Rattle.rtm_set.specs.Entries.{isEntry, entriesOf, entriesBy, Sound, entryOf, partBy}
 use Rattle.rtm_set.proofs.Rest.{Front, before, entries-rest}
 use Rattle.rtm_set.proofs.Counts.{counted}
-use Rattle.rtm_set.proofs.Sound.{Sound, short, entry-first}
+use Rattle.rtm_set.proofs.Sound.{short, entry-first}
 
 -- the entry at a place of an answer's entries
 abbrev pub at : ℕ → Answer (List (List ℕ)) → Answer (List ℕ)

@@ -1,4 +1,4 @@
--- A sound list, one that is not refused: it has at most 1,024 octets, an entry stands at its front, and the rest is sound.
+-- A list that is not refused: it has at most 1,024 octets, an entry stands at its front, and the rest is sound.
 -- Assumes nothing.
 use Prim.Native.Nat.{ℕ, zero, suc, _*_, _≤_}
 use mathlib.Core.Path.{_≡_, refl, sym, ap, _∙_}
@@ -10,12 +10,9 @@ use lib.Dec.{eqb, ltb}
 use lib.ListN.{length, take, drop}
 use Rattle.refusal.specs.Answer.{Answer, value, refused, refuse}
 use Rattle.refusal.proofs.Answers.{not-both, same-value}
-use Rattle.rtm_set.specs.Entries.{frontSize, isEntry, entriesWithin, entriesOf, entriesBy, entriesIn, countOf}
+use Rattle.rtm_set.specs.Entries.{frontSize, isEntry, entriesWithin, entriesOf, entriesBy, entriesIn, Sound, countOf}
 use Rattle.rtm_set.proofs.Rest.{Front, front, before, entries-bad, entries-rest}
 use Rattle.rtm_set.proofs.Counts.{counted, count-few}
-
-abbrev pub Sound : List ℕ → Type 0
-Sound s = value (entriesIn s) ≡ entriesOf s
 
 -- a list that could be counted is sound, and has as many entries
 pub counted-sound : (s : List ℕ) (n : ℕ) → countOf s ≡ value n → Sound s × (n ≡ length (entriesIn s))

@@ -41,6 +41,10 @@ entriesBy (refused n) = []
 abbrev pub entriesIn : List ℕ → List (List ℕ)
 entriesIn s = entriesBy (entriesOf s)
 
+-- a list that is not refused
+abbrev pub Sound : List ℕ → Type 0
+Sound s = value (entriesIn s) ≡ entriesOf s
+
 -- "The count of entries"
 abbrev pub countOf : List ℕ → Answer ℕ
 countOf s = andThen (entriesOf s) (λ es. value (length es))

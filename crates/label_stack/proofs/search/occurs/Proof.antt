@@ -6,9 +6,8 @@ use mathlib.Core.Bool.{Bool, true, false, _||_}
 use mathlib.Core.List.{List}
 use native.Mathlib.Omega.{arith}
 use lib.ListN.{length, getD, take, drop}
-use Rattle.rtm_set.specs.Entries.{entriesIn}
+use Rattle.rtm_set.specs.Entries.{entriesIn, Sound}
 use Rattle.rtm_set.proofs.Rest.{Front}
-use Rattle.rtm_set.proofs.Sound.{Sound}
 use Rattle.label_stack.specs.Ttl.{sameAddress, occurs}
 use Rattle.label_stack.proofs.Walk.{entry-at, entry-ends, part-at, part-length, sound-behind, entries-behind, entries-end}
 use borrow.Author.Needs.{needs}

@@ -85,8 +85,8 @@ occurs-requires c κs =
     let d = c .before .before .before in
     (part-length (hops d) (here d) (size d) (entry d), d .before .before .before .before .before .pre .2)
 
-cast-t20 : tie.Need-cast-t20 Inv-loop μ-loop
-cast-t20 c = omega (arith, below (c .before .before .before .before .before))
+cast-t21 : tie.Need-cast-t21 Inv-loop μ-loop
+cast-t21 c = omega (arith, below (c .before .before .before .before .before))
 
 -- what `occurs` told of the part, it told of the hop there
 told : (d : tie.In-loop Inv-loop μ-loop) (r b : Bool) → r ≡ occurs (take (here d + size d - here d) (drop (here d) (hops d))) (set d) → r ≡ b
@@ -140,7 +140,7 @@ search-spec =
     part-occurs-end
     occurs-requires
     (λ c. search needs)
-    cast-t20
+    cast-t21
     returns-2
     add-at
     add-place

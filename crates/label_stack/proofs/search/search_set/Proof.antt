@@ -1,8 +1,9 @@
 -- `search_set` meets its contract: the list of hops is sound, and what counting the other told decides.
 -- Assumes nothing.
 use mathlib.Core.Path.{sym, ap, _∙_}
+use Rattle.rtm_set.specs.Entries.{Sound}
 use Rattle.rtm_set.specs.Answers.{countAnswer}
-use Rattle.rtm_set.proofs.Sound.{Sound, counted-sound, counted-refused}
+use Rattle.rtm_set.proofs.Sound.{counted-sound, counted-refused}
 use Rattle.label_stack.proofs.Walk.{both-sound, set-refused}
 use borrow.Author.Needs.{needs}
 use Rattle.label_stack.proofs.search.search_set.Statement.{statement}
