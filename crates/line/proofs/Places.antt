@@ -1,11 +1,11 @@
--- The fewest digits that hold a number are its places.
+-- The fewest digits that hold a number are its places; in hexadecimal, 16 at least, they are 16.
 -- Assumes nothing.
-use Prim.Native.Nat.{ℕ, zero, suc, _-_, _*_, _/_, _^_, _<_, _≤_}
+use Prim.Native.Nat.{ℕ, zero, suc, _+_, _-_, _*_, _/_, _^_, _<_, _≤_}
 use mathlib.Core.Path.{_≡_, refl, ap}
 use mathlib.Core.Bool.{Bool, true, false, cond}
 use native.Mathlib.Nat.{pow-suc, one-le-pow}
 use native.Mathlib.Omega.{arith}
-use borrow.Author.Tests.{lt-ltb, le-ltb}
+use borrow.Author.Tests.{lt-ltb, le-ltb, ltb-true, ltb-false}
 use lib.Dec.{ltb}
 use Rattle.io.specs.Digits.{Fewest}
 use Rattle.line.specs.Line.{places}
@@ -34,3 +34,19 @@ either false n m h k = k
 pub few : (k n : ℕ) → places k n ≤ suc k
 few zero n = omega arith
 few (suc k) n = either (ltb n 10) (suc (places k (n / 10))) (suc (suc k)) (omega arith) (omega (arith, few k (n / 10)))
+
+more : (j : ℕ) → 16 ^ 16 ≤ 16 ^ (j + 16)
+more zero = omega arith
+more (suc j) =
+    let e : suc j + 16 ≡ suc (j + 16) = omega arith in
+    rw e (omega (arith, more j, pow-suc 16 (j + 16)))
+
+pub sixteen : (n r : ℕ) → n < 16 ^ 16 → Fewest 16 16 n r → r ≡ 16
+sixteen n r h f = go (ltb 16 r) refl
+  where
+    go : (b : Bool) → ltb 16 r ≡ b → r ≡ 16
+    go true t =
+        let l = ltb-true 16 r t in
+        let e : r - 1 ≡ r - 17 + 16 = omega arith in
+        absurd (omega (arith, rw e at (f .2 l), more (r - 17)))
+    go false t = omega (arith, f .0, ltb-false 16 r t)

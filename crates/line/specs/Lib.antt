@@ -1,2 +1,3 @@
 pub mod Line
 pub mod Placed
+pub mod Ttl

@@ -1,13 +1,17 @@
-// The line that the program prints of a message (document 01, Numbers to check against), and the
-// program itself.
+// The lines that the programs print: `show` of a message (document 01, Numbers to check against),
+// `show_ttl` of a path (document 02, W-208); and the programs themselves.
 mod place;
 mod program;
+mod ttl;
 
 use message::Header;
 use message::SubTlv;
 pub use program::print;
 pub use program::show;
 use reader::Reading;
+pub use ttl::print_ttl;
+pub use ttl::show_ttl;
+pub use ttl::ttl_line;
 ghost use mathlib.Core.Path.{_≡_};
 ghost use Prim.Native.Nat.{_+_, _≤_};
 ghost use lib.ListN.{take, drop};

@@ -3,6 +3,7 @@ use crate::ROOM;
 ghost use mathlib.Core.List.{_++_};
 ghost use Prim.Native.Nat.{_+_, _≤_};
 ghost use lib.ListN.{length};
+ghost use Rattle.io.specs.Digits.{digits};
 ghost use Rattle.line.specs.Line.{decimal, signedDecimal, newline};
 ghost use Rattle.line.specs.Placed.{Placed};
 
@@ -48,6 +49,17 @@ pub(crate) fn field(out: &mut [u8; ROOM], at: usize, word: &[u8], n: u64) -> usi
 {
     let digits = text(out, at, word);
     number(out, digits, n)
+}
+
+// A number in 16 hexadecimal digits.
+pub(crate) fn hex(out: &mut [u8; ROOM], at: usize, n: u64) -> usize
+    requires { ⌜ at + 16 ≤ 192 ⌝ }
+    ensures { λ r. ⌜ Placed (digits 16 16 n) (now (out .entry)) (now (out .exit)) at r ⌝ }
+    ensures { λ r. ⌜ r ≤ at + 16 ⌝ }
+{
+    let mut digits = [0u8; 16];
+    let count = io::hex(n, 16, &mut digits);
+    text(out, at, &digits[..count])
 }
 
 // The last field of the line, with its newline.
