@@ -8,14 +8,14 @@ use mathlib.Core.Option.{Option, none, some}
 use native.Mathlib.Omega.{arith}
 use borrow.Author.Tests.{eq-eqb, eqb-true, lt-ltb, ltb-true, leb-false}
 use lib.Dec.{eqb, ltb, leb}
-use lib.ListN.{length, getD, drop}
+use lib.ListN.{length, getD}
 use Rattle.octets.specs.Octets.{same}
 use Rattle.octets.proofs.Comparing.{same-equal, same-itself}
 use Rattle.refusal.specs.Answer.{Answer, value, refused, refuse, andThen}
 use Rattle.refusal.proofs.Answers.{not-both}
 use Rattle.rtm_set.specs.Entries.{entriesOf, entriesBy, entriesIn}
 use Rattle.rtm_set.proofs.Sound.{short, entries-few, refused-number}
-use Rattle.label_stack.specs.Ttl.{sameAddress, occurs, timingAt, least, nextTiming, found, searched, ttlOf}
+use Rattle.label_stack.specs.Ttl.{typeOf, addressOf, sameAddress, occurs, timingAt, least, nextTiming, found, searched, ttlOf}
 use Rattle.label_stack.specs.Promises.{InSet, TimingAt, Searchable, Nearest, NoneLater, TtlFits, SetOrderFree}
 use Rattle.label_stack.proofs.Least.{NonePasses, Least, least-is, least-none, is-least, is-none}
 use Rattle.label_stack.proofs.Walk.{both-sound, answered}
@@ -28,22 +28,22 @@ in-set hop (e ∷ es) q = go (sameAddress hop e) refl (in-set hop es) q
   where
     go : (b : Bool) → sameAddress hop e ≡ b → (occurs hop es ≡ true → InSet hop es) → b || occurs hop es ≡ true → InSet hop (e ∷ es)
     go true t r q =
-        let both = and-eq-true-iff (eqb (getD hop 0 0) (getD e 0 0)) (same (drop 4 hop) (drop 4 e)) .0 t in
+        let both = and-eq-true-iff (eqb (typeOf hop) (typeOf e)) (same (addressOf hop) (addressOf e)) .0 t in
         record {
           place = 0;
           below = omega arith;
-          type = eqb-true (getD hop 0 0) (getD e 0 0) (both .0);
-          address = same-equal (drop 4 hop) (drop 4 e) (both .1);
+          type = eqb-true (typeOf hop) (typeOf e) (both .0);
+          address = same-equal (addressOf hop) (addressOf e) (both .1);
         }
     go false t r q =
         let s = r q in
         record { place = suc (s .place); below = omega (arith, s .below); type = s .type; address = s .address }
 
-same-there : (hop e : List ℕ) → getD hop 0 0 ≡ getD e 0 0 → drop 4 hop ≡ drop 4 e → sameAddress hop e ≡ true
+same-there : (hop e : List ℕ) → typeOf hop ≡ typeOf e → addressOf hop ≡ addressOf e → sameAddress hop e ≡ true
 same-there hop e t a =
-    rw (eq-eqb (getD hop 0 0) (getD e 0 0) t) (ap (λ (x : List ℕ). same x (drop 4 e)) a ∙ same-itself (drop 4 e))
+    rw (eq-eqb (typeOf hop) (typeOf e) t) (ap (λ (x : List ℕ). same x (addressOf e)) a ∙ same-itself (addressOf e))
 
-occurs-at : (hop : List ℕ) (set : List (List ℕ)) (k : ℕ) → k < length set → getD hop 0 0 ≡ getD (getD set k []) 0 0 → drop 4 hop ≡ drop 4 (getD set k []) → occurs hop set ≡ true
+occurs-at : (hop : List ℕ) (set : List (List ℕ)) (k : ℕ) → k < length set → typeOf hop ≡ typeOf (getD set k []) → addressOf hop ≡ addressOf (getD set k []) → occurs hop set ≡ true
 occurs-at hop [] k l t a = absurd (omega arith)
 occurs-at hop (e ∷ es) zero l t a = ap (λ (b : Bool). b || occurs hop es) (same-there hop e t a)
 occurs-at hop (e ∷ es) (suc k) l t a = go (sameAddress hop e) (occurs-at hop es k (omega arith) t a)

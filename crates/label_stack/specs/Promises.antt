@@ -2,18 +2,18 @@
 use Prim.Native.Nat.{ℕ, _+_, _<_}
 use mathlib.Core.Path.{_≡_}
 use mathlib.Core.List.{List, [], List·Permᴰ}
-use lib.ListN.{length, getD, drop}
+use lib.ListN.{length, getD}
 use Rattle.refusal.specs.Answer.{value, refused}
 use Rattle.rtm_set.specs.Entries.{entriesIn, Sound}
-use Rattle.label_stack.specs.Ttl.{ttlOf}
+use Rattle.label_stack.specs.Ttl.{typeOf, addressOf, ttlOf}
 use Rattle.label_stack.specs.Labels.{entryAt, lspEntry, gAchEntry, labelsOf}
 
 -- some entry of the RTM_SET list has the hop's type and address
 pub record InSet (hop : List ℕ) (set : List (List ℕ)) : Type 0 where
   pub place : ℕ
   pub below : place < length set
-  pub type : getD hop 0 0 ≡ getD (getD set place []) 0 0
-  pub address : drop 4 hop ≡ drop 4 (getD set place [])
+  pub type : typeOf hop ≡ typeOf (getD set place [])
+  pub address : addressOf hop ≡ addressOf (getD set place [])
 
 -- a later hop, at distance d behind position p, that is in RTM_SET
 pub record TimingAt (hops set : List (List ℕ)) (p d : ℕ) : Type 0 where

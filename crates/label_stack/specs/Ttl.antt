@@ -9,10 +9,17 @@ use Rattle.octets.specs.Octets.{same}
 use Rattle.refusal.specs.Answer.{Answer, value, refused, refuse, andThen}
 use Rattle.rtm_set.specs.Entries.{entriesOf}
 
--- Two entries of address lists, each its type (octet 0), its length, two reserved octets, then the address: "type and address";
--- "Reserved octets do not count in comparing."
+-- an entry's type and address (document 01: "Octet 0 is the type, octet 1 the entry's whole length, octets 2 and 3 reserved and ignored,
+-- then the address"): "Reserved octets do not count in comparing."
+abbrev pub typeOf : List ℕ → ℕ
+typeOf e = getD e 0 0
+
+abbrev pub addressOf : List ℕ → List ℕ
+addressOf e = drop 4 e
+
+-- two entries of the same "type and address"
 abbrev pub sameAddress : List ℕ → List ℕ → Bool
-sameAddress a b = eqb (getD a 0 0) (getD b 0 0) && same (drop 4 a) (drop 4 b)
+sameAddress a b = eqb (typeOf a) (typeOf b) && same (addressOf a) (addressOf b)
 
 -- "occur in the RTM_SET list": at any place of it
 abbrev pub occurs : List ℕ → List (List ℕ) → Bool
