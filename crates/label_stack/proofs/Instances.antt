@@ -2,16 +2,17 @@
 -- Assumes nothing.
 use Prim.Native.Nat.{ℕ, zero, suc, _<_}
 use mathlib.Core.Path.{_≡_, refl}
+use mathlib.Core.Bool.{true}
 use mathlib.Core.List.{List, _++_, List·Permᴰ·swap}
 use native.Mathlib.Omega.{arith}
 use lib.ListN.{replicate}
 use Rattle.refusal.specs.Answer.{value, refused}
 use Rattle.label_stack.specs.Ttl.{ttlOf}
-use Rattle.label_stack.specs.Labels.{entryAt, lspEntry, gAchEntry, labelsOf}
+use Rattle.label_stack.specs.Labels.{LabelEntry, fieldsOf, entryAt, lspEntry, gAchEntry, labelsOf}
 use Rattle.label_stack.specs.Promises.{TimingBehind}
 use Rattle.label_stack.proofs.Examples.{ipv4, hops, set}
 use Rattle.label_stack.proofs.Nearest.{nearest, none-later, set-order-free, ttl-fits}
-use Rattle.label_stack.proofs.ReadBack.{labels-read-back}
+use Rattle.label_stack.proofs.ReadBack.{fields-read-back, labels-read-back}
 
 -- `Nearest`: hop 3 is in RTM_SET, three from the ingress, and neither hop 1 nor hop 2 is
 three-away : TimingBehind hops set 0 3
@@ -49,6 +50,13 @@ longest = refl
 
 fits : 127 < 128
 fits = ttl-fits (alike 127) set 0 127 longest
+
+-- `FieldsReadBack`: all bits set
+abbrev ones : LabelEntry
+ones = record { label = 1048575; trafficClass = 7; bottom = true; ttl = 255 }
+
+all-ones : fieldsOf 0xFFFFFFFF ≡ ones
+all-ones = fields-read-back ones (omega arith) (omega arith)
 
 -- `LabelsReadBack`: label 16 and TTL 3, then the G-ACh label
 read-back : (entryAt (labelsOf hops set 0 16 (replicate 9 0xAA) .output) 0 ≡ lspEntry 16 3) × (entryAt (labelsOf hops set 0 16 (replicate 9 0xAA) .output) 4 ≡ gAchEntry)

@@ -1,12 +1,13 @@
--- The two entries written are taken apart again: `LabelsReadBack`.
+-- Label entries are taken apart again: `FieldsReadBack`, and the two that are written, `LabelsReadBack`.
 -- Assumes nothing.
 use Prim.Native.Nat.{ℕ, _+_, _*_, _/_, _%_, _<_, _^_}
 use mathlib.Core.Path.{_≡_, refl, ap, _∙_}
 use mathlib.Core.Bool.{Bool, true, false, _||_, true≢false}
 use mathlib.Core.List.{List, [], _++_, append-assoc}
 use native.Mathlib.Omega.{arith}
-use borrow.Author.Tests.{ne-eqb, ltb-false}
-use lib.Dec.{ltb}
+use borrow.Author.Tests.{ltb-false}
+use lib.Arith.{digits-mod}
+use lib.Dec.{eqb, ltb}
 use lib.ListN.{length, drop}
 use Rattle.octets.specs.Octets.{octets}
 use Rattle.octets.proofs.Numbers.{length-octets, number-octets}
@@ -14,24 +15,29 @@ use Rattle.refusal.specs.Answer.{Answer, value, refused, andThen, refuse}
 use Rattle.refusal.proofs.Answers.{not-both, same-value, passes}
 use Rattle.label_stack.specs.Ttl.{ttlOf}
 use Rattle.label_stack.specs.Labels.{entryBits, fieldsOf, entryAt, lspEntry, gAchEntry, labelOctets, labelled}
-use Rattle.label_stack.specs.Promises.{LabelsReadBack}
+use Rattle.label_stack.specs.Promises.{FieldsReadBack, LabelsReadBack}
 use Rattle.label_stack.proofs.Nearest.{ttl-fits}
 
-even-part : (l : ℕ) → l * 16 % 2 ≡ 0
-even-part l = omega arith
+-- the fields of 32 bits, b for the bottom bit
+apart : (l c b t : ℕ) → c < 8 → b < 2 → t < 256
+    → let x = l * 4096 + c * 512 + b * 256 + t in (x / 4096 ≡ l) × (x / 512 % 8 ≡ c) × (x / 256 % 2 ≡ b) × (x % 256 ≡ t)
+apart l c b t h k m =
+    let x = l * 4096 + c * 512 + b * 256 + t in
+    let eighths : x / 512 ≡ l * 8 + c = omega arith in
+    let halves : x / 256 ≡ (l * 8 + c) * 2 + b = omega arith in
+    (omega arith, ap (λ (n : ℕ). n % 8) eighths ∙ digits-mod l h, ap (λ (n : ℕ). n % 2) halves ∙ digits-mod (l * 8 + c) k, omega arith)
 
--- the LSP's entry as 32 bits, taken apart
-lsp-apart : (l d : ℕ) → l < 1048576 → d < 256 → fieldsOf (entryBits (lspEntry l d)) ≡ lspEntry l d
-lsp-apart l d h m =
-    let x = l * 4096 + 0 * 512 + 0 + d in
-    let label : x / 4096 ≡ l = omega arith in
-    let eighths : x / 512 ≡ l * 8 = omega arith in
-    let class : x / 512 % 8 ≡ 0 = omega arith in
-    let ttl : x % 256 ≡ d = omega arith in
-    let sixteenths : x / 256 ≡ l * 16 = omega arith in
-    let even : x / 256 % 2 ≡ 0 = ap (λ (n : ℕ). n % 2) sixteenths ∙ even-part l in
-    let bottom = ne-eqb (x / 256 % 2) 1 (λ e. omega arith) in
-    (λ i. record { label = label i; trafficClass = class i; bottom = bottom i; ttl = ttl i })
+pub fields-read-back : FieldsReadBack
+fields-read-back e h m = go (e .bottom)
+  where
+    go : (b : Bool) → fieldsOf (entryBits (record { label = e .label; trafficClass = e .trafficClass; bottom = b; ttl = e .ttl }))
+        ≡ record { label = e .label; trafficClass = e .trafficClass; bottom = b; ttl = e .ttl }
+    go true =
+        let f = apart (e .label) (e .trafficClass) 1 (e .ttl) h (omega arith) m in
+        (λ i. record { label = f .0 i; trafficClass = f .1 i; bottom = eqb (f .2 i) 1; ttl = f .3 i })
+    go false =
+        let f = apart (e .label) (e .trafficClass) 0 (e .ttl) h (omega arith) m in
+        (λ i. record { label = f .0 i; trafficClass = f .1 i; bottom = eqb (f .2 i) 1; ttl = f .3 i })
 
 -- both entries at the start of an output
 both-apart : (l d : ℕ) (o : List ℕ) → l < 1048576 → d < 256 → (entryAt (labelOctets l d ++ o) 0 ≡ lspEntry l d) × (entryAt (labelOctets l d ++ o) 4 ≡ gAchEntry)
@@ -40,7 +46,7 @@ both-apart l d o h m =
     let y = entryBits gAchEntry in
     let first = octets 4 x in
     let small : x < 256 ^ 4 = omega arith in (
-      ap (λ (s : List ℕ). entryAt s 0) (append-assoc first (octets 4 y) o) ∙ ap fieldsOf (number-octets 4 x 0 [] (octets 4 y ++ o) refl small) ∙ lsp-apart l d h m,
+      ap (λ (s : List ℕ). entryAt s 0) (append-assoc first (octets 4 y) o) ∙ ap fieldsOf (number-octets 4 x 0 [] (octets 4 y ++ o) refl small) ∙ fields-read-back (lspEntry l d) (omega arith) m,
       ap fieldsOf (number-octets 4 y 4 first o (length-octets 4 x) (omega arith)),
     )
 

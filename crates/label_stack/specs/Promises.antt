@@ -6,7 +6,7 @@ use lib.ListN.{length, getD}
 use Rattle.refusal.specs.Answer.{value, refused}
 use Rattle.rtm_set.specs.Entries.{entriesIn, Sound}
 use Rattle.label_stack.specs.Ttl.{typeOf, addressOf, ttlOf}
-use Rattle.label_stack.specs.Labels.{entryAt, lspEntry, gAchEntry, labelsOf}
+use Rattle.label_stack.specs.Labels.{LabelEntry, entryBits, fieldsOf, entryAt, lspEntry, gAchEntry, labelsOf}
 
 -- some entry of the RTM_SET list has the hop's type and address
 pub record InSet (hop : List ℕ) (set : List (List ℕ)) : Type 0 where
@@ -57,6 +57,10 @@ SetOrderFree =
 -- A list of at most 1,024 octets has at most 128 entries: the distance fits the TTL's octet.
 abbrev pub TtlFits : Type 0
 TtlFits = (h s : List ℕ) (p d : ℕ) → ttlOf h s p ≡ value d → d < 128
+
+-- RFC 3032's fields, laid out in 32 bits and taken apart: an entry whose class and TTL have room there comes back.
+abbrev pub FieldsReadBack : Type 0
+FieldsReadBack = (e : LabelEntry) → e .trafficClass < 8 → e .ttl < 256 → fieldsOf (entryBits e) ≡ e
 
 -- The two entries written, taken apart by RFC 3032's fields: label, traffic class, bottom of stack and TTL come back.
 abbrev pub LabelsReadBack : Type 0
