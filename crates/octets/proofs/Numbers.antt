@@ -4,7 +4,7 @@
 use Prim.Native.Nat.{ℕ, zero, suc, _+_, _*_, _/_, _%_, _^_, _<_, _≤_}
 use mathlib.Core.Path.{_≡_, refl, sym, ap, _∙_}
 use mathlib.Core.List.{List, [], _∷_, _++_, append-assoc}
-use native.Mathlib.Nat.{pow-suc, add-assoc}
+use native.Mathlib.Nat.{pow-suc, add-assoc, add-zero}
 use native.Mathlib.Omega.{arith}
 use lib.ListN.{length, getD, take, drop, length-append, length-drop}
 use lib.Seq.{getD-at, getD-take, getD-drop, take-suc}
@@ -28,6 +28,10 @@ number-octets (suc w) x i p q e h =
     let high : number w l i ≡ x / 256 = ap (λ (m : List ℕ). number w m i) front ∙ number-octets w (x / 256) i p (b ∷ q) e small in
     let low : getD l (i + w) 0 ≡ b = ap (λ (m : List ℕ). getD m (i + w) 0) front ∙ getD-at (p ++ o) b q 0 (i + w) long in
     omega arith
+
+-- the number in one octet is that octet
+pub number-one : (s : List ℕ) (i : ℕ) → number 1 s i ≡ getD s i 0
+number-one s i = let e : 0 + getD s (i + 0) 0 ≡ getD s (i + 0) 0 = omega arith in e ∙ ap (λ (k : ℕ). getD s k 0) (add-zero i)
 
 -- a number of the part from n on
 pub number-drop : (w n i : ℕ) (s : List ℕ) → number w (drop n s) i ≡ number w s (n + i)
