@@ -1,8 +1,8 @@
 // The layout of a label entry, in the order of RFC 3032's figure: label (20 bits), traffic class
 // (3), bottom of stack (1), TTL (8).
 
-// What one of a label is in the entry's 32 bits. Traffic class 0 and "not bottom of stack" add
-// nothing.
+// The label stands above the entry's other 12 bits. Traffic class 0 and "not bottom of stack" add
+// nothing to them.
 pub const LABEL_UNIT: u32 = 4096;
 
 // The first label that is not reserved, and the last.

@@ -40,9 +40,12 @@ abbrev pub labelsIn : List ℕ → Write
 labelsIn s = labelsOf (take (number 2 s 12) (drop 14 s)) (drop (setPlace s + 2) s) (number 8 s 0) (number 4 s 8) (replicate 8 0)
 
 -- one line: `refused` and the number, or `ttl`, the TTL in decimal and the eight octets in hexadecimal
-abbrev pub labelsLine : Answer ℕ → List ℕ → List ℕ
-labelsLine (value d) out = ttlWord ++ decimal d ++ space ++ digits 16 16 (number 8 out 0) ++ newline
-labelsLine (refused n) out = refusedWord ++ decimal n ++ newline
+abbrev pub labelsLineBy : List ℕ → Answer ℕ → List ℕ
+labelsLineBy out (value d) = ttlWord ++ decimal d ++ space ++ digits 16 16 (number 8 out 0) ++ newline
+labelsLineBy out (refused n) = refusedWord ++ decimal n ++ newline
+
+abbrev pub labelsLine : Write → List ℕ
+labelsLine w = labelsLineBy (w .output) (w .answer)
 
 abbrev pub ttlLineOf : List ℕ → List ℕ
-ttlLineOf s = cond (laidOut s) (labelsLine (labelsIn s .answer) (labelsIn s .output)) malformedLine
+ttlLineOf s = cond (laidOut s) (labelsLine (labelsIn s)) malformedLine

@@ -45,13 +45,7 @@ fn laid_out(lists: &[u8]) -> bool
 
 // The line of the search and the label entries.
 fn labels_line(position: usize, label: u32, hops: &[u8], set: &[u8], out: &mut [u8; ROOM]) -> usize
-    ensures { λ r. ⌜
-        Placed
-        (labelsLine
-        (labelsOf (now (hops .entry)) (now (set .entry)) position label (replicate 8 0) .answer)
-        (labelsOf (now (hops .entry)) (now (set .entry)) position label (replicate 8 0) .output))
-        (now (out .entry)) (now (out .exit)) 0 r
-        ⌝ }
+    ensures { λ r. ⌜ Placed (labelsLine (labelsOf (now (hops .entry)) (now (set .entry)) position label (replicate 8 0))) (now (out .entry)) (now (out .exit)) 0 r ⌝ }
 {
     let mut entries = [0u8; 8];
     match label_stack::write(hops, set, position, label, &mut entries) {

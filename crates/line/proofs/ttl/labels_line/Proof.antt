@@ -17,7 +17,7 @@ use Rattle.line.proofs.ttl.labels_line.Statement.{statement}
 use Rattle.line.proofs.ttl.labels_line.Tie as tie
 
 -- the line of what the call left, v, is that of what it should leave, w
-left : {l m : List ℕ} {r : ℕ} (v w : Write) → v ≡ w → Placed (labelsLine (v .answer) (v .output)) l m 0 r → Placed (labelsLine (w .answer) (w .output)) l m 0 r
+left : {l m : List ℕ} {r : ℕ} (v w : Write) → v ≡ w → Placed (labelsLine v) l m 0 r → Placed (labelsLine w) l m 0 r
 left v w e p = rw e at p
 
 returns : tie.Need-returns

@@ -11,7 +11,6 @@ use lib.ListN.{length, take, drop, replicate}
 use Rattle.io.specs.Counts.{Counts}
 use Rattle.octets.specs.Octets.{number}
 use Rattle.octets.proofs.Stores.{rest}
-use Rattle.refusal.specs.Written.{Write}
 use Rattle.label_stack.specs.Labels.{labelsOf}
 use Rattle.line.specs.Placed.{Placed}
 use Rattle.line.specs.Ttl.{setPlace, inputEnd, laidOut, labelsIn, labelsLine, malformedLine, ttlLineOf}
@@ -25,8 +24,8 @@ whole : {w l m : List ℕ} {r : ℕ} (s : List ℕ) → w ≡ ttlLineOf s → Pl
 whole s e p = at-start (rw e at p)
 
 module _ (s : List ℕ) where
-  decided : (b : Bool) → laidOut s ≡ b → ttlLineOf s ≡ cond b (labelsLine (labelsIn s .answer) (labelsIn s .output)) malformedLine
-  decided b e = ap (λ (x : Bool). cond x (labelsLine (labelsIn s .answer) (labelsIn s .output)) malformedLine) e
+  decided : (b : Bool) → laidOut s ≡ b → ttlLineOf s ≡ cond b (labelsLine (labelsIn s)) malformedLine
+  decided b e = ap (λ (x : Bool). cond x (labelsLine (labelsIn s)) malformedLine) e
 
   -- where an input that is laid out so ends
   ends : laidOut s ≡ true → length s ≡ inputEnd s
@@ -69,7 +68,7 @@ returns c =
     let position = c .before .before .before .before .before .read64 in
     let label = c .before .before .before .before .read32 in
     whole (lists d)
-    (ap (λ (w : Write). labelsLine (w .answer) (w .output)) (asked (lists d) (place .result) (position .result) (label .result) (place .ensures .0) (position .ensures) (label .ensures))
+    (ap labelsLine (asked (lists d) (place .result) (position .result) (label .result) (place .ensures .0) (position .ensures) (label .ensures))
     ∙ sym (decided (lists d) true (laid d)))
     (c .labels-line .ensures)
 
