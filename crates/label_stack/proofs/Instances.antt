@@ -8,7 +8,7 @@ use native.Mathlib.Omega.{arith}
 use lib.ListN.{replicate}
 use Rattle.refusal.specs.Answer.{value, refused}
 use Rattle.label_stack.specs.Ttl.{ttlOf}
-use Rattle.label_stack.specs.Labels.{LabelEntry, fieldsOf, entryAt, lspEntry, gAchEntry, labelsOf}
+use Rattle.label_stack.specs.Labels.{LabelEntry, fieldsOf, entryAt, lspEntry, galEntry, labelsOf}
 use Rattle.label_stack.specs.Promises.{TimingBehind}
 use Rattle.label_stack.proofs.Examples.{ipv4, hops, set}
 use Rattle.label_stack.proofs.Nearest.{nearest, none-later, set-order-free, ttl-fits}
@@ -58,6 +58,6 @@ ones = record { label = 1048575; trafficClass = 7; bottom = true; ttl = 255 }
 all-ones : fieldsOf 0xFFFFFFFF ≡ ones
 all-ones = fields-read-back ones (omega arith) (omega arith)
 
--- `LabelsReadBack`: label 16 and TTL 3, then the G-ACh label
-read-back : (entryAt (labelsOf hops set 0 16 (replicate 9 0xAA) .output) 0 ≡ lspEntry 16 3) × (entryAt (labelsOf hops set 0 16 (replicate 9 0xAA) .output) 4 ≡ gAchEntry)
+-- `LabelsReadBack`: label 16 and TTL 3, then the G-ACh Label
+read-back : (entryAt (labelsOf hops set 0 16 (replicate 9 0xAA) .output) 0 ≡ lspEntry 16 3) × (entryAt (labelsOf hops set 0 16 (replicate 9 0xAA) .output) 4 ≡ galEntry)
 read-back = labels-read-back hops set 0 16 3 (replicate 9 0xAA) refl

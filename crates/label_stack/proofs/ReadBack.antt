@@ -14,7 +14,7 @@ use Rattle.octets.proofs.Numbers.{length-octets, number-octets}
 use Rattle.refusal.specs.Answer.{Answer, value, refused, andThen, refuse}
 use Rattle.refusal.proofs.Answers.{not-both, same-value, passes}
 use Rattle.label_stack.specs.Ttl.{ttlOf}
-use Rattle.label_stack.specs.Labels.{entryBits, fieldsOf, entryAt, lspEntry, gAchEntry, labelOctets, labelled}
+use Rattle.label_stack.specs.Labels.{entryBits, fieldsOf, entryAt, lspEntry, galEntry, labelOctets, labelled}
 use Rattle.label_stack.specs.Promises.{FieldsReadBack, LabelsReadBack}
 use Rattle.label_stack.proofs.Nearest.{ttl-fits}
 
@@ -40,10 +40,10 @@ fields-read-back e h m = go (e .bottom)
         (λ i. record { label = f .0 i; trafficClass = f .1 i; bottom = eqb (f .2 i) 1; ttl = f .3 i })
 
 -- both entries at the start of an output
-both-apart : (l d : ℕ) (o : List ℕ) → l < 1048576 → d < 256 → (entryAt (labelOctets l d ++ o) 0 ≡ lspEntry l d) × (entryAt (labelOctets l d ++ o) 4 ≡ gAchEntry)
+both-apart : (l d : ℕ) (o : List ℕ) → l < 1048576 → d < 256 → (entryAt (labelOctets l d ++ o) 0 ≡ lspEntry l d) × (entryAt (labelOctets l d ++ o) 4 ≡ galEntry)
 both-apart l d o h m =
     let x = entryBits (lspEntry l d) in
-    let y = entryBits gAchEntry in
+    let y = entryBits galEntry in
     let first = octets 4 x in
     let small : x < 256 ^ 4 = omega arith in (
       ap (λ (s : List ℕ). entryAt s 0) (append-assoc first (octets 4 y) o) ∙ ap fieldsOf (number-octets 4 x 0 [] (octets 4 y ++ o) refl small) ∙ fields-read-back (lspEntry l d) (omega arith) m,

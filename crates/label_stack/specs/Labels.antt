@@ -35,12 +35,12 @@ entryAt s i = fieldsOf (number 4 s i)
 abbrev pub lspEntry : ℕ → ℕ → LabelEntry
 lspEntry l d = record { label = l; trafficClass = 0; bottom = false; ttl = d }
 
--- "then label 13, bottom of stack, TTL 1", the G-ACh label; "both traffic classes 0"
-abbrev pub gAchEntry : LabelEntry
-gAchEntry = record { label = 13; trafficClass = 0; bottom = true; ttl = 1 }
+-- "then label 13, bottom of stack, TTL 1", the G-ACh Label (GAL, RFC 5586); "both traffic classes 0"
+abbrev pub galEntry : LabelEntry
+galEntry = record { label = 13; trafficClass = 0; bottom = true; ttl = 1 }
 
 abbrev pub labelOctets : ℕ → ℕ → List ℕ
-labelOctets l d = entryOctets (lspEntry l d) ++ entryOctets gAchEntry
+labelOctets l d = entryOctets (lspEntry l d) ++ entryOctets galEntry
 
 -- "25 for a label below 16 or over 1,048,575, 12": for the distance d, with label l and an output of so many octets
 abbrev pub labelled : ℕ → ℕ → ℕ → Answer ℕ

@@ -6,7 +6,7 @@ use lib.ListN.{length, getD}
 use Rattle.refusal.specs.Answer.{value, refused}
 use Rattle.rtm_set.specs.Entries.{entriesIn, Sound}
 use Rattle.label_stack.specs.Ttl.{typeOf, addressOf, ttlOf}
-use Rattle.label_stack.specs.Labels.{LabelEntry, entryBits, fieldsOf, entryAt, lspEntry, gAchEntry, labelsOf}
+use Rattle.label_stack.specs.Labels.{LabelEntry, entryBits, fieldsOf, entryAt, lspEntry, galEntry, labelsOf}
 
 -- some entry of the RTM_SET list has the hop's type and address
 pub record InSet (hop : List ℕ) (set : List (List ℕ)) : Type 0 where
@@ -68,4 +68,4 @@ LabelsReadBack =
     (h s : List ℕ) (p l d : ℕ) (out : List ℕ)
     → labelsOf h s p l out .answer ≡ value d
     → (entryAt (labelsOf h s p l out .output) 0 ≡ lspEntry l d)
-    × (entryAt (labelsOf h s p l out .output) 4 ≡ gAchEntry)
+    × (entryAt (labelsOf h s p l out .output) 4 ≡ galEntry)

@@ -31,12 +31,12 @@ fn put_entries(ttl: u8, label: u32, out: &mut [u8]) -> Ttl
     }
     let lsp = lsp_entry(label, ttl);
     octets::put(out, 0, &lsp);
-    octets::put(out, layout::SECOND_ENTRY, &layout::G_ACH_ENTRY);
+    octets::put(out, layout::SECOND_ENTRY, &layout::GAL_ENTRY);
     Ttl::Distance(ttl)
 }
 
 // The search of `next_ttl`, and the two entries for its answer at the start of the output: the LSP's
-// label with this TTL, then the G-ACh label. After the search's refusals 25 for a label below 16 or
+// label with this TTL, then the G-ACh Label. After the search's refusals 25 for a label below 16 or
 // over 1,048,575, then 12. Octets beyond the eight stay, and a refusal leaves the output as it came.
 pub fn write(hops: &[u8], set: &[u8], position: usize, label: u32, out: &mut [u8]) -> Ttl
     ensures { λ r. ⌜ labelsLeft r (now (out .exit)) ≡ labelsOf (now (hops .entry)) (now (set .entry)) position label (now (out .entry)) ⌝ }

@@ -10,8 +10,8 @@ pub const FIRST_LABEL: u32 = 16;
 
 pub const LAST_LABEL: u32 = 1048575;
 
-// The G-ACh label 13 (RFC 5586), traffic class 0, bottom of stack, TTL 1.
-pub const G_ACH_ENTRY: [u8; 4] = *b"\x00\x00\xD1\x01";
+// The entry of the G-ACh Label (GAL, RFC 5586): label 13, traffic class 0, bottom of stack, TTL 1.
+pub const GAL_ENTRY: [u8; 4] = *b"\x00\x00\xD1\x01";
 
 // Where the second entry starts, and the size of both.
 pub const SECOND_ENTRY: usize = 4;

@@ -8,7 +8,7 @@ use borrow.Author.Tests.{lt-ltb, le-ltb}
 use lib.ListN.{length}
 use Rattle.octets.proofs.Stores.{next}
 use Rattle.refusal.specs.Answer.{value}
-use Rattle.label_stack.specs.Labels.{entryOctets, lspEntry, gAchEntry}
+use Rattle.label_stack.specs.Labels.{entryOctets, lspEntry, galEntry}
 use borrow.Author.Needs.{needs}
 use Rattle.label_stack.proofs.labels.put_entries.Statement.{statement}
 use Rattle.label_stack.proofs.labels.put_entries.Tie as tie
@@ -52,7 +52,7 @@ returns-4 c =
     let first = c .before .before .before .before .before .before .before .put in
     let second = c .before .before .put2 in
     let vs = entryOctets (lspEntry (a .label) (a .ttl)) in
-    let gal = entryOctets gAchEntry in
+    let gal = entryOctets galEntry in
     let e = next (first .last .0) o [] o (lsp .result) vs 0 (first .ensures) (lsp .ensures) refl refl (omega arith) in
     let f = next (second .last .0) (first .last .0) vs o gal gal 4 (second .ensures) refl e refl (omega arith) in
     simp (le-ltb (a .label) 16 (omega arith), le-ltb 1048575 (a .label) (omega arith), le-ltb (length o) 8 (omega arith)) (ap (λ (x : List ℕ). record { answer = value (a .ttl); output = x }) f)
