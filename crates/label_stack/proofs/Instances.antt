@@ -2,13 +2,13 @@
 -- Assumes nothing.
 use Prim.Native.Nat.{ℕ, zero, suc, _<_}
 use mathlib.Core.Path.{_≡_, refl}
-use mathlib.Core.Bool.{true}
+use mathlib.Core.Bool.{true, false}
 use mathlib.Core.List.{List, _++_, List·Permᴰ·swap}
 use native.Mathlib.Omega.{arith}
 use lib.ListN.{replicate}
 use Rattle.refusal.specs.Answer.{value, refused}
 use Rattle.label_stack.specs.Ttl.{ttlOf}
-use Rattle.label_stack.specs.Labels.{LabelEntry, fieldsOf, entryAt, lspEntry, galEntry, labelsOf}
+use Rattle.label_stack.specs.Labels.{LabelEntry, fieldsOf, entryAt, labelsOf}
 use Rattle.label_stack.specs.Promises.{TimingBehind}
 use Rattle.label_stack.proofs.Examples.{ipv4, hops, set}
 use Rattle.label_stack.proofs.Nearest.{nearest, none-later, set-order-free, ttl-fits}
@@ -59,5 +59,9 @@ all-ones : fieldsOf 0xFFFFFFFF ≡ ones
 all-ones = fields-read-back ones (omega arith) (omega arith)
 
 -- `LabelsReadBack`: label 16 and TTL 3, then the G-ACh Label
-read-back : (entryAt (labelsOf hops set 0 16 (replicate 9 0xAA) .output) 0 ≡ lspEntry 16 3) × (entryAt (labelsOf hops set 0 16 (replicate 9 0xAA) .output) 4 ≡ galEntry)
+abbrev written : List ℕ
+written = labelsOf hops set 0 16 (replicate 9 0xAA) .output
+
+read-back : (entryAt written 0 ≡ record { label = 16; trafficClass = 0; bottom = false; ttl = 3 })
+    × (entryAt written 4 ≡ record { label = 13; trafficClass = 0; bottom = true; ttl = 1 })
 read-back = labels-read-back hops set 0 16 3 (replicate 9 0xAA) refl

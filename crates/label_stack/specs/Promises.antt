@@ -1,12 +1,13 @@
 -- What the search and the label entries promise, in whole sentences.
 use Prim.Native.Nat.{ℕ, _+_, _<_}
 use mathlib.Core.Path.{_≡_}
+use mathlib.Core.Bool.{true, false}
 use mathlib.Core.List.{List, [], List·Permᴰ}
 use lib.ListN.{length, getD}
 use Rattle.refusal.specs.Answer.{value, refused}
 use Rattle.rtm_set.specs.Entries.{entriesIn, Sound}
 use Rattle.label_stack.specs.Ttl.{typeOf, addressOf, ttlOf}
-use Rattle.label_stack.specs.Labels.{LabelEntry, entryBits, fieldsOf, entryAt, lspEntry, galEntry, labelsOf}
+use Rattle.label_stack.specs.Labels.{LabelEntry, entryBits, fieldsOf, entryAt, labelsOf}
 
 -- some entry of the RTM_SET list has the hop's type and address
 pub record InSet (hop : List ℕ) (set : List (List ℕ)) : Type 0 where
@@ -62,10 +63,11 @@ TtlFits = (h s : List ℕ) (p d : ℕ) → ttlOf h s p ≡ value d → d < 128
 abbrev pub FieldsReadBack : Type 0
 FieldsReadBack = (e : LabelEntry) → e .trafficClass < 8 → e .ttl < 256 → fieldsOf (entryBits e) ≡ e
 
--- The two entries written, taken apart by RFC 3032's fields: label, traffic class, bottom of stack and TTL come back.
+-- The two entries written, taken apart by RFC 3032's fields: the LSP's label with this TTL, not bottom of stack, then label 13, bottom of
+-- stack, TTL 1, both traffic classes 0.
 abbrev pub LabelsReadBack : Type 0
 LabelsReadBack =
     (h s : List ℕ) (p l d : ℕ) (out : List ℕ)
     → labelsOf h s p l out .answer ≡ value d
-    → (entryAt (labelsOf h s p l out .output) 0 ≡ lspEntry l d)
-    × (entryAt (labelsOf h s p l out .output) 4 ≡ galEntry)
+    → (entryAt (labelsOf h s p l out .output) 0 ≡ record { label = l; trafficClass = 0; bottom = false; ttl = d })
+    × (entryAt (labelsOf h s p l out .output) 4 ≡ record { label = 13; trafficClass = 0; bottom = true; ttl = 1 })
