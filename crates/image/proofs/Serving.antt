@@ -21,7 +21,7 @@ use Rattle.records.proofs.Holding.{decide, holds-empty, holds-self, holds-other
 use Rattle.records.proofs.Numbers.{records-few, records-same}
 use Rattle.records.proofs.View.{view, viewAged, no-view, view-remove-own, view-remove-other, view-ticked, view-add-own, view-add-other}
 use Rattle.image.specs.Layout.{fit, isLaidOut}
-use Rattle.image.specs.Image.{form, fieldsOf, rightResidence, sound, ofSync, every, differ, distinct, loadable, filled, recordsAt, loadOf, switched}
+use Rattle.image.specs.Image.{form, fieldsOf, rightWait, rightResidence, sound, ofSync, every, differ, distinct, loadable, filled, recordsAt, loadOf, switched}
 use Rattle.image.proofs.Returns.{loadable-parts, load-sound, switched-loaded, switched-refused, switched-keeps}
 
 -- ---- sound records
@@ -49,6 +49,12 @@ sound-made r a b u c p q =
       lt-ltb (r .wait) (256 ^ 1) (omega arith),
     )
 
+right : (r : Record) → sound r ≡ true → rightResidence r ≡ true
+unfolding sound
+right r e =
+    let f = fit (form .widths) (fieldsOf r) in
+    and-eq-true-iff (rightResidence r) f .0 (and-eq-true-iff (rightWait r) (rightResidence r && f) .0 e .1) .0
+
 -- and stays so with a lower wait
 sound-lowered : (r : Record) (v w : ℕ) → 1 ≤ w → w ≤ v → sound (withWait r v) ≡ true → sound (withWait r w) ≡ true
 unfolding sound
@@ -59,10 +65,41 @@ sound-lowered r v w a l e =
     rw (le-leb 1 w a, le-leb w 3 (omega arith), lt-ltb w (256 ^ 1) (omega arith))
     (rw (le-leb 1 v (omega arith), le-leb v 3 most, lt-ltb v (256 ^ 1) (omega arith)) at e)
 
+-- ---- tests that every record of a table passes
+
+module _ (p : Record → Bool) where
+  -- the slot is empty, or passes the test
+  abbrev pub inSlot : Record → Bool
+  inSlot s = empty s || p s
+
+  pub records-every : (t : Slots) → every p (recordsOf t) ≡ every inSlot t
+  records-every [] = refl
+  records-every (s ∷ t) = go (empty s) (records-every t)
+    where
+      go :
+          (b : Bool)
+          → every p (recordsOf t) ≡ every inSlot t
+          → every p (cond b (recordsOf t) (s ∷ recordsOf t)) ≡ (b || p s) && every inSlot t
+      go true h = h
+      go false h = ap (λ (d : Bool). p s && d) h
+
+  pub every-map : (f : Record → Record) → ((s : Record) → p s ≡ true → p (f s) ≡ true) → (t : Slots) → every p t ≡ true → every p (map f t) ≡ true
+  every-map f h [] e = refl
+  every-map f h (s ∷ t) e =
+      let k = and-eq-true-iff (p s) (every p t) .0 e in
+      rw (h s (k .0)) (every-map f h t (k .1))
+
+  pub every-set : (r : Record) → p r ≡ true → (t : Slots) (i : ℕ) → every p t ≡ true → every p (set t i r) ≡ true
+  every-set r h [] i e = refl
+  every-set r h (s ∷ t) zero e = rw h (and-eq-true-iff (p s) (every p t) .0 e .1)
+  every-set r h (s ∷ t) (suc i) e =
+      let k = and-eq-true-iff (p s) (every p t) .0 e in
+      rw (k .0) (every-set r h t i (k .1))
+
 -- ---- a slot that is empty, or whose record is sound
 
 abbrev pub soundIn : Record → Bool
-soundIn s = empty s || sound s
+soundIn s = inSlot sound s
 
 sound-aged : (s : Record) → soundIn s ≡ true → soundIn (aged s) ≡ true
 sound-aged s = go (s .wait)
@@ -71,31 +108,6 @@ sound-aged s = go (s .wait)
     go zero e = e
     go (suc zero) e = refl
     go (suc (suc w)) e = rw (eqb·suc-zero w) (sound-lowered s (suc (suc w)) (suc w) (omega arith) (omega arith) (rw (eqb·suc-zero (suc w)) at e))
-
-records-sound : (t : Slots) → every sound (recordsOf t) ≡ every soundIn t
-records-sound [] = refl
-records-sound (s ∷ t) = go (empty s) (records-sound t)
-  where
-    go :
-        (b : Bool)
-        → every sound (recordsOf t) ≡ every soundIn t
-        → every sound (cond b (recordsOf t) (s ∷ recordsOf t)) ≡ (b || sound s) && every soundIn t
-    go true h = h
-    go false h = ap (λ (d : Bool). sound s && d) h
-
-module _ (p : Record → Bool) where
-  every-map : (f : Record → Record) → ((s : Record) → p s ≡ true → p (f s) ≡ true) → (t : Slots) → every p t ≡ true → every p (map f t) ≡ true
-  every-map f h [] e = refl
-  every-map f h (s ∷ t) e =
-      let k = and-eq-true-iff (p s) (every p t) .0 e in
-      rw (h s (k .0)) (every-map f h t (k .1))
-
-  every-set : (r : Record) → p r ≡ true → (t : Slots) (i : ℕ) → every p t ≡ true → every p (set t i r) ≡ true
-  every-set r h [] i e = refl
-  every-set r h (s ∷ t) zero e = rw h (and-eq-true-iff (p s) (every p t) .0 e .1)
-  every-set r h (s ∷ t) (suc i) e =
-      let k = and-eq-true-iff (p s) (every p t) .0 e in
-      rw (k .0) (every-set r h t i (k .1))
 
 -- ---- records of different identities
 
@@ -170,12 +182,22 @@ pub record Serving (t : Slots) : Type 0 where
 pub serving-loadable : (t : Slots) → Serving t → every ofSync (recordsOf t) ≡ true → loadable (recordsOf t) ≡ true
 serving-loadable t v h =
     let few = le-leb (length (recordsOf t)) 16 (omega (arith, records-same t, records-few t, v .slots)) in
-    rw (few, records-sound t, v .sounds, h, single-distinct t (v .single))
+    rw (few, records-every sound t, v .sounds, h, single-distinct t (v .single))
+
+-- no residence in it reaches the limit
+pub sound-right : (t : Slots) → Serving t → every rightResidence (recordsOf t) ≡ true
+sound-right t v = go (recordsOf t) (records-every sound t ∙ v .sounds)
+  where
+    go : (rs : Slots) → every sound rs ≡ true → every rightResidence rs ≡ true
+    go [] e = refl
+    go (r ∷ rs) e =
+        let k = and-eq-true-iff (sound r) (every sound rs) .0 e in
+        rw (right r (k .0)) (go rs (k .1))
 
 pub loadable-serving : (t : Slots) → length t ≡ 16 → loadable (recordsOf t) ≡ true → Serving t
 loadable-serving t l h =
     let k = loadable-parts (recordsOf t) h in
-    record { slots = l; sounds = sym (records-sound t) ∙ k .1; single = distinct-single t (k .3) }
+    record { slots = l; sounds = sym (records-every sound t) ∙ k .1; single = distinct-single t (k .3) }
 
 -- records that can be loaded, filled up with empty slots; a new table and a loaded one are such
 filled-length : (rs : Slots) → loadable rs ≡ true → length (filled rs) ≡ 16

@@ -65,3 +65,6 @@ pub const IMAGE: u8 = 22;
 pub const NO_TIMING_NODE: u8 = 24;
 
 pub const LABEL: u8 = 25;
+
+// A capture.
+pub const CAPTURE: u8 = 26;

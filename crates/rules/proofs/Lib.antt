@@ -4,6 +4,8 @@ pub mod Changes
 pub mod Calls
 pub mod Laws
 pub mod Serves
+pub mod Below
+pub mod Numbers
 pub mod Crossing
 pub mod Pads
 pub mod PathSums
@@ -14,4 +16,5 @@ pub mod BranchExamples
 pub mod DelayExample
 pub mod LargestExample
 pub mod ServiceExample
+pub mod NumbersExample
 pub mod NumberExample

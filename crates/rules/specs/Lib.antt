@@ -3,3 +3,4 @@ pub mod Rules
 pub mod Path
 pub mod Demand3
 pub mod Service
+pub mod Numbers

@@ -1,7 +1,7 @@
 -- What holds in service, of what node calls, ticks and switchovers make of a new or a loaded table. Nothing stops a switchover but a Delay
 -- record (document 02, W-201 and W-204): the table can be written whenever none waits, and a switchover that is refused leaves it as it
--- is. And the number that the table keeps is that of its records (W-206).
-use Prim.Native.Nat.{ℕ}
+-- is. No residence in it is too long. And the number that the table keeps is that of its records (W-206).
+use Prim.Native.Nat.{ℕ, _<_}
 use mathlib.Core.Path.{_≡_}
 use mathlib.Core.Bool.{true}
 use mathlib.Core.List.{List}
@@ -9,6 +9,7 @@ use mathlib.Core.Option.{some}
 use lib.ListN.{getElem?, replicate}
 use Rattle.octets.specs.Octets.{Octets}
 use Rattle.refusal.specs.Answer.{value}
+use Rattle.records.specs.declared.Record.{Record}
 use Rattle.records.specs.Slots.{Slots, zeros, recordsOf, recordsIn}
 use Rattle.records.specs.Node.{Node, Event, call, final}
 use Rattle.records.specs.Order.{Reordered, NoWant}
@@ -37,6 +38,16 @@ AlwaysWritten =
     → InOctets es
     → NoDelay (final rules t es)
     → (s : List ℕ) × (imageOf (final rules t es) ≡ value s)
+
+-- No residence that waits reaches 262,144,000,000,000 units, what refusal 10 refuses: a call adds none such, and no image brings one. So a
+-- Follow_Up or a Delay_Resp has less than that added (document 02, W-209: the sum of a report is exact because of it).
+abbrev pub ResidencesBelow : Type 0
+ResidencesBelow =
+    (t : Slots) (n : ℕ) (es : List (Event Call))
+    → Started t n
+    → (k : ℕ) (r : Record)
+    → getElem? (recordsOf (final rules t es)) k ≡ some r
+    → r .residence < 262144000000000
 
 -- "no other answer depends on it", neither a call's nor a load's, from any table
 abbrev pub CallsAside : Type 0
