@@ -4,21 +4,25 @@ use Prim.Native.Nat.{ℕ, _<_, _≤_}
 use mathlib.Core.Path.{_≡_, refl, ap, _∙_}
 use mathlib.Core.Bool.{Bool, true, false}
 use mathlib.Core.List.{List}
+use mathlib.Core.Option.{Option, none, some}
 use native.Mathlib.Omega.{arith}
 use borrow.Author.Tests.{le-leb, lt-leb, ne-eqb}
 use lib.Dec.{eqb}
-use Rattle.refusal.specs.Answer.{value, refused}
+use Rattle.refusal.specs.Answer.{Answer, value, refused}
 use Rattle.residence.specs.declared.Residence.{Residence}
 use Rattle.residence.specs.Residence.{acceptedOf}
 use Rattle.message.specs.declared.fields.SubTlv.{SubTlv}
 use Rattle.records.specs.declared.RecordKind.{RecordKind}
 use Rattle.records.specs.declared.RecordKind.the-variants.{Sync, Delay}
 use Rattle.records.specs.declared.Identity.{Identity}
-use Rattle.records.specs.Node.{add, collect}
+use Rattle.records.specs.declared.Record.{Record}
+use Rattle.records.specs.Slots.{Slots, find, vacant, addAnswer}
+use Rattle.records.specs.Node.{add, collect, tableAnswer}
 use Rattle.words.specs.Words.{slotsOf, numberOf}
 use Rattle.words.specs.Answers.{Left, requestOn}
-use Rattle.rules.specs.Rules.{Call, firstOf, secondOf, passed, ptpKind, oneStepReply, update, keepIn, gather, asItCame}
-use Rattle.node.specs.Calls.{twoStepCall, callOnBy}
+use Rattle.rules.specs.Rules.{Call, twoStep, firstOf, secondOf, passed, ptpKind, oneStepReply, update, keepIn, gather, asItCame, keepRequest, requestBy}
+use Rattle.rules.specs.Path.{unitsOf}
+use Rattle.node.specs.Calls.{twoStepCall, callOnBy, tellOnBy}
 
 -- One-step: a PTPType up to 3 is updated, and one above is passed
 module _ (c : Call) (t : SubTlv) where
@@ -60,6 +64,15 @@ kept Sync w q u r e m o x f =
 kept Delay w q u r e m o x f =
     ap (λ (y : Left). record { done = record { reply = keepIn (twoStepCall m o x) (y .outcome .answer); slots = y .outcome .slots; number = y .outcome .number }; words = y .words }) e ∙ rw f
 
+kept-alone : (q : Identity) (a : Answer ℕ) (t : Slots) → unitsOf (tableAnswer (keepRequest q a) t) ≡ 0
+kept-alone q (value u) t = go (find q t) (vacant t)
+  where
+    go : (o : Option Record) (b : Bool) → unitsOf (addAnswer o b) ≡ 0
+    go (some r) b = refl
+    go none true = refl
+    go none false = refl
+kept-alone q (refused n) t = refl
+
 -- and one whose residence is refused
 pub not-kept :
     (k : RecordKind) (w : List ℕ) (q : Identity) (m o : List ℕ) (x : Residence) (n : ℕ) → acceptedOf x ≡ refused n
@@ -68,12 +81,17 @@ pub not-kept :
 not-kept Sync w q m o x n e = rw e
 not-kept Delay w q m o x n e = rw e
 
+-- which collects nothing, whatever the table answers
+pub none-collected : (k : RecordKind) (q : Identity) (x : Residence) (t : Slots) → unitsOf (tableAnswer (requestBy twoStep x (firstOf k q)) t) ≡ 0
+none-collected Sync q x t = kept-alone q (acceptedOf x) t
+none-collected Delay q x t = kept-alone q (acceptedOf x) t
+
 -- a Follow_Up or a Delay_Resp, by what the table answered
 pub gathered :
     (k : RecordKind) (w : List ℕ) (q : Identity) (r : Left) → r ≡ requestOn (collect q) w → (m o : List ℕ) (x : Residence)
-    → record { done = record { reply = gather (twoStepCall m o x) (r .outcome .answer); slots = r .outcome .slots; number = r .outcome .number }; words = r .words }
-    ≡ callOnBy w (twoStepCall m o x) (secondOf k q)
+    → record { done = record { done = record { reply = gather (twoStepCall m o x) (r .outcome .answer); slots = r .outcome .slots; number = r .outcome .number }; words = r .words }; collected = unitsOf (r .outcome .answer) }
+    ≡ tellOnBy w (twoStepCall m o x) (secondOf k q)
 gathered Sync w q r e m o x =
-    ap (λ (y : Left). record { done = record { reply = gather (twoStepCall m o x) (y .outcome .answer); slots = y .outcome .slots; number = y .outcome .number }; words = y .words }) e
+    ap (λ (y : Left). record { done = record { done = record { reply = gather (twoStepCall m o x) (y .outcome .answer); slots = y .outcome .slots; number = y .outcome .number }; words = y .words }; collected = unitsOf (y .outcome .answer) }) e
 gathered Delay w q r e m o x =
-    ap (λ (y : Left). record { done = record { reply = gather (twoStepCall m o x) (y .outcome .answer); slots = y .outcome .slots; number = y .outcome .number }; words = y .words }) e
+    ap (λ (y : Left). record { done = record { done = record { reply = gather (twoStepCall m o x) (y .outcome .answer); slots = y .outcome .slots; number = y .outcome .number }; words = y .words }; collected = unitsOf (y .outcome .answer) }) e

@@ -8,6 +8,7 @@ use Rattle.rules.specs.Rules as rules
 use Rattle.node.specs.declared.answer.Answer.{Answer}
 use Rattle.node.specs.declared.answer.Answer.the-variants.{Updated, Passed, Created, Waiting, Added, Refused}
 use Rattle.node.specs.declared.answer.Done.{Done}
+use Rattle.node.specs.declared.answer.Told.{Told}
 use Rattle.node.specs.declared.answer.Accepted.{Accepted}
 use Rattle.node.specs.declared.answer.Accepted.the-variants as accepted
 
@@ -34,6 +35,14 @@ doneOn r m o w = record { done = record { reply = replied r m o; slots = slotsOf
 -- the same with the table handed back
 abbrev pub done : Done → List ℕ → List ℕ → DoneOn
 done r m o = doneOn (r .answer) m o (r .table .words)
+
+-- or with the residence that the call collected from the table, 0 where it collected none
+pub record ToldOn : Type 0 where
+  pub done : DoneOn
+  pub collected : ℕ
+
+abbrev pub toldOn : Told → List ℕ → List ℕ → List ℕ → ToldOn
+toldOn r m o w = record { done = doneOn (r .answer) m o w; collected = r .collected }
 
 -- a one-step call is lent no output and handed no table: whatever they are, they stay
 abbrev pub doneAlone : Answer → List ℕ → List ℕ → Slots → ℕ → rules.Done

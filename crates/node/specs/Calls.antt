@@ -2,9 +2,11 @@
 use Prim.Native.Nat.{ℕ}
 use mathlib.Core.List.{List}
 use Rattle.residence.specs.declared.Residence.{Residence}
+use Rattle.records.specs.Node.{tableAnswer}
 use Rattle.words.specs.Words.{slotsOf, numberOf, wordsAfter}
 use Rattle.rules.specs.Rules.{Call, Kind, oneStep, twoStep, kindOf, requestBy, callBy}
-use Rattle.node.specs.Answers.{DoneOn}
+use Rattle.rules.specs.Path.{unitsOf}
+use Rattle.node.specs.Answers.{DoneOn, ToldOn}
 
 abbrev pub oneStepCall : List ℕ → List ℕ → Residence → Call
 oneStepCall m o r = record { mode = oneStep; message = m; residence = r; output = o }
@@ -18,3 +20,11 @@ callOnBy w c k = record { done = callBy (slotsOf w) (numberOf w) c k; words = wo
 
 abbrev pub callOn : List ℕ → Call → DoneOn
 callOn w c = callOnBy w c (kindOf (c .message))
+
+-- and the residence that it collects: the table's answer to what the call asks for
+abbrev pub tellOnBy : List ℕ → Call → Kind → ToldOn
+tellOnBy w c k =
+    record { done = callOnBy w c k; collected = unitsOf (tableAnswer (requestBy (c .mode) (c .residence) k) (slotsOf w)) }
+
+abbrev pub tellOn : List ℕ → Call → ToldOn
+tellOn w c = tellOnBy w c (kindOf (c .message))

@@ -20,6 +20,13 @@ pub struct Done {
     pub answer: Answer,
 }
 
+// The answer of a two-step call, and the residence of the record that it collected; 0 where it
+// collected none.
+pub struct Told {
+    pub answer: Answer,
+    pub collected: u64,
+}
+
 // The units of a residence that a node takes, or the number of the refusal.
 pub enum Accepted {
     Units(u64),

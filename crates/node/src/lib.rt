@@ -6,6 +6,8 @@ mod two_step;
 
 pub use answer::Answer;
 pub use answer::Done;
+pub use answer::Told;
 pub use one_step::handle_one_step;
 pub use two_step::handle_two_step;
 pub use two_step::handle_two_step_lent;
+pub use two_step::tell_two_step;

@@ -4,6 +4,7 @@ use crate::answer;
 use crate::answer::Accepted;
 use crate::answer::Answer;
 use crate::answer::Done;
+use crate::answer::Told;
 use handling::Handling;
 use lent::Entry;
 use lent::Found;
@@ -19,8 +20,8 @@ ghost use Rattle.residence.specs.declared.Residence.{Residence};
 ghost use Rattle.residence.specs.Residence.{acceptedOf};
 ghost use Rattle.records.specs.declared.RecordKind.{RecordKind};
 ghost use Rattle.rules.specs.Rules.{firstOf, secondOf, create as create·spec};
-ghost use Rattle.node.specs.Answers.{replied, done, doneOn};
-ghost use Rattle.node.specs.Calls.{twoStepCall, callOnBy, callOn};
+ghost use Rattle.node.specs.Answers.{replied, done, doneOn, toldOn};
+ghost use Rattle.node.specs.Calls.{twoStepCall, callOnBy, callOn, tellOnBy, tellOn};
 
 // A Sync with S clear: refusals 9, 10 and 12, or S set and the Follow_Up written.
 fn create(message: &mut [u8], output: &mut [u8], residence: Residence) -> Answer
@@ -60,20 +61,56 @@ fn keep(words: &mut [u64; 64], identity: Identity, residence: Residence) -> Answ
     }
 }
 
+// A call that collected nothing.
+fn nothing_collected(answer: Answer) -> Told
+    ensures { λ r. ⌜ r ≡ record { answer = answer; collected = 0 } ⌝ }
+{
+    Told {
+        answer,
+        collected: 0,
+    }
+}
+
 // A Follow_Up, or a Delay_Resp: refusal 15 where no record waits for it; or the record's residence
 // is added and its slot emptied. S, residence and output of the call are not looked at.
-fn gather(words: &mut [u64; 64], message: &mut [u8], identity: Identity) -> Answer
+fn gather(words: &mut [u64; 64], message: &mut [u8], identity: Identity) -> Told
     ensures { λ r. ⌜
         ((k : RecordKind) (o : List ℕ) (x : Residence)
-        → doneOn r (now (message .exit)) o (now (words .exit)) ≡ callOnBy (now (words .entry)) (twoStepCall (now (message .entry)) o x) (secondOf k identity))
+        → toldOn r (now (message .exit)) o (now (words .exit)) ≡ tellOnBy (now (words .entry)) (twoStepCall (now (message .entry)) o x) (secondOf k identity))
         ⌝ }
 {
     match lent::collect(words, identity) {
         Found::Residence(units) => {
             handling::add_to_pad(message, units);
-            Answer::Added
+            Told {
+                answer: Answer::Added,
+                collected: units,
+            }
         }
-        Found::Refused(n) => Answer::Refused(n),
+        Found::Refused(n) => nothing_collected(Answer::Refused(n)),
+    }
+}
+
+// A message at a two-step node whose table is lent, as `handle_two_step_lent` has it; and the residence
+// that was collected for it.
+pub fn tell_two_step(
+    words: &mut [u64; 64],
+    message: &mut [u8],
+    output: &mut [u8],
+    residence: Residence,
+) -> Told
+    ensures { λ r. ⌜
+        toldOn r (now (message .exit)) (now (output .exit)) (now (words .exit))
+        ≡ tellOn (now (words .entry)) (twoStepCall (now (message .entry)) (now (output .entry)) residence)
+        ⌝ }
+{
+    match handling::classify(message) {
+        Handling::Creates(_) => nothing_collected(create(message, output, residence)),
+        Handling::Keeps(identity) => nothing_collected(keep(words, identity, residence)),
+        Handling::Gathers(identity) => gather(words, message, identity),
+        Handling::Timed => nothing_collected(Answer::Refused(refusal::NOT_FOR_TWO_STEP)),
+        Handling::Untimed => nothing_collected(Answer::Passed),
+        Handling::Unreadable(n) => nothing_collected(Answer::Refused(n)),
     }
 }
 
@@ -92,14 +129,8 @@ pub fn handle_two_step_lent(
         ≡ callOn (now (words .entry)) (twoStepCall (now (message .entry)) (now (output .entry)) residence)
         ⌝ }
 {
-    match handling::classify(message) {
-        Handling::Creates(_) => create(message, output, residence),
-        Handling::Keeps(identity) => keep(words, identity, residence),
-        Handling::Gathers(identity) => gather(words, message, identity),
-        Handling::Timed => Answer::Refused(refusal::NOT_FOR_TWO_STEP),
-        Handling::Untimed => Answer::Passed,
-        Handling::Unreadable(n) => Answer::Refused(n),
-    }
+    let told = tell_two_step(words, message, output, residence);
+    told.answer
 }
 
 // The same with the table by value: its words are copied once, and handed back.

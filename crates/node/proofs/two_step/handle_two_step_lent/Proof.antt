@@ -1,78 +1,14 @@
--- `handle_two_step_lent` meets its contract: each arm knows what was read.
+-- `handle_two_step_lent` meets its contract: it gives the answer that was told.
 -- Assumes nothing.
-use mathlib.Core.Path.{sym, ap, _∙_}
-use Rattle.rules.specs.Rules.{Reply}
-use Rattle.rules.proofs.Bearing.{is-sync}
-use Rattle.words.specs.Words.{slotsOf, numberOf}
-use Rattle.handling.specs.Handling.{kindAnswer}
-use Rattle.node.specs.Calls.{twoStepCall, callOnBy}
+use mathlib.Core.Path.{ap}
+use Rattle.node.specs.Answers.{ToldOn}
 use borrow.Author.Needs.{needs}
 use Rattle.node.proofs.two_step.handle_two_step_lent.Statement.{statement}
 use Rattle.node.proofs.two_step.handle_two_step_lent.Tie as tie
 
-create-requires : tie.Need-create-requires
-create-requires c κs =
-    let e = ap kindAnswer (sym (c .before .before .enum-told .given .1)) ∙ c .before .before .before .before .classify .ensures in
-    is-sync (c .before .before .before .before .before .before .before .before .args .message .now) _ _ (sym e) .sound .long
-
 returns : tie.Need-returns
-returns c =
-    let a = c .before .before .before .before .before .before .before .before .before .before .before .before .before .args in
-    let w = a .words .now in
-    ap (λ (y : Reply). record { done = record { reply = y; slots = slotsOf w; number = numberOf w }; words = w }) (c .before .before .before .before .create .ensures)
-    ∙ ap (callOnBy (a .words .now) (twoStepCall (a .message .now) (a .output .now) (a .residence)))
-    (ap kindAnswer (sym (c .before .before .before .before .before .before .before .enum-told .given .1)) ∙ c .before .before .before .before .before .before .before .before .before .classify .ensures)
-
-returns-2 : tie.Need-returns-2
-returns-2 c =
-    let a = c .before .before .before .before .before .before .before .before .before .args in
-    let q = c .before .before .before .identity .given .0 .0 in
-    c .keep .ensures (q .kind) (a .message .now) (a .output .now)
-    ∙ ap (callOnBy (a .words .now) (twoStepCall (a .message .now) (a .output .now) (a .residence)))
-    (ap kindAnswer (sym (c .before .before .before .identity .given .1)) ∙ c .before .before .before .before .before .classify .ensures)
-
-returns-3 : tie.Need-returns-3
-returns-3 c =
-    let a = c .before .before .before .before .before .before .before .before .before .before .before .before .args in
-    let q = c .before .before .before .before .before .before .identity2 .given .0 .0 in
-    c .before .before .gather .ensures (q .kind) (a .output .now) (a .residence)
-    ∙ ap (callOnBy (a .words .now) (twoStepCall (a .message .now) (a .output .now) (a .residence)))
-    (ap kindAnswer (sym (c .before .before .before .before .before .before .identity2 .given .1)) ∙ c .before .before .before .before .before .before .before .before .classify .ensures)
-
-returns-4 : tie.Need-returns-4
-returns-4 c =
-    let a = c .before .before .before .before .before .before .args in
-    ap (callOnBy (a .words .now) (twoStepCall (a .message .now) (a .output .now) (a .residence)))
-    (ap kindAnswer (sym (c .enum-told2 .given .1)) ∙ c .before .before .classify .ensures)
-
-returns-5 : tie.Need-returns-5
-returns-5 c =
-    let a = c .before .before .before .before .before .before .args in
-    ap (callOnBy (a .words .now) (twoStepCall (a .message .now) (a .output .now) (a .residence)))
-    (ap kindAnswer (sym (c .enum-told3 .given .1)) ∙ c .before .before .classify .ensures)
-
-returns-6 : tie.Need-returns-6
-returns-6 c =
-    let a = c .before .before .before .before .before .before .before .args in
-    ap (callOnBy (a .words .now) (twoStepCall (a .message .now) (a .output .now) (a .residence)))
-    (ap kindAnswer (sym (c .before .n .given .1)) ∙ c .before .before .before .classify .ensures)
+returns c = ap (λ (x : ToldOn). x .done) (c .before .before .before .before .tell-two-step .ensures)
 
 pub handle-two-step-lent-spec : {M : Type 1} → statement M
 handle-two-step-lent-spec =
-    tie.close
-    (tie.spec
-    (λ c κs. search needs) (λ c. search needs)
-    create-requires
-    (λ c. search needs) (λ c κs. search needs) (λ c. search needs) (λ c κs. search needs) (λ c. search needs)
-    (λ c. search needs) (λ c. search needs) (λ c. search needs) (λ c. search needs)
-    returns
-    (λ c. search needs)
-    returns-2
-    (λ c. search needs)
-    returns-3
-    (λ c. search needs)
-    returns-4
-    (λ c. search needs)
-    returns-5
-    (λ c. search needs)
-    returns-6)
+    tie.close (tie.spec (λ c κs. search needs) (λ c. search needs) (λ c. search needs) returns)
