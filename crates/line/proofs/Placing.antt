@@ -14,7 +14,7 @@ module _ {u l m : List ℕ} {a b : ℕ} (p : Placed u l m a b) where
   long : length (take a l ++ u) ≡ b
   long = length-append (take a l) u ∙ omega (arith, length-take-le a l (omega (arith, p .ends, p .fits)), p .ends)
 
-  same-length : length m ≡ length l
+  pub same-length : length m ≡ length l
   same-length = ap length (p .stands) ∙ length-append (take a l ++ u) (drop b l) ∙ omega (arith, long, length-drop b l, p .fits)
 
   up-to : take b m ≡ take a l ++ u

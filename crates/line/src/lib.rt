@@ -1,7 +1,8 @@
-// The lines that the programs print: `show` of a message (document 01, Numbers to check against),
-// `show_ttl` of a path (document 02, W-208); and the programs themselves.
+// What the programs print: `show` of a message (document 01, Numbers to check against), `show_ttl` of
+// a path (document 02, W-208), `replay` of a capture (W-209); and the programs themselves.
 mod place;
 mod program;
+mod replaying;
 mod ttl;
 
 use message::Header;
@@ -9,6 +10,9 @@ use message::SubTlv;
 pub use program::print;
 pub use program::show;
 use reader::Reading;
+pub use replaying::print_report;
+pub use replaying::replay;
+pub use replaying::report_text;
 pub use ttl::print_ttl;
 pub use ttl::show_ttl;
 pub use ttl::ttl_line;
@@ -19,8 +23,8 @@ ghost use Rattle.io.specs.Counts.{Counts};
 ghost use Rattle.line.specs.Line.{headerWords, subTlvWords, lineOf};
 ghost use Rattle.line.specs.Placed.{Placed};
 
-// Room for any line.
-pub const ROOM: usize = 192;
+// Room for any line, and for the text of a report.
+pub const ROOM: usize = 1280;
 
 // Type and pad, at the start of the line.
 fn header_words(out: &mut [u8; ROOM], header: Header) -> usize
@@ -34,7 +38,7 @@ fn header_words(out: &mut [u8; ROOM], header: Header) -> usize
 
 // S, PTPType and sequence.
 fn sub_tlv_words(out: &mut [u8; ROOM], at: usize, sub_tlv: SubTlv) -> usize
-    requires { ⌜ at + 74 ≤ 192 ⌝ }
+    requires { ⌜ at + 74 ≤ 1280 ⌝ }
     ensures { λ r. ⌜ Placed (subTlvWords «sub_tlv») (now (out .entry)) (now (out .exit)) at r ⌝ }
     ensures { λ r. ⌜ r ≤ at + 74 ⌝ }
 {

@@ -9,7 +9,7 @@ ghost use Rattle.line.specs.Placed.{Placed};
 
 // A word as it is.
 pub(crate) fn text(out: &mut [u8; ROOM], at: usize, word: &[u8]) -> usize
-    requires { ⌜ at + length (now word) ≤ 192 ⌝ }
+    requires { ⌜ at + length (now word) ≤ 1280 ⌝ }
     ensures { λ r. ⌜ Placed (now (word .entry)) (now (out .entry)) (now (out .exit)) at r ⌝ }
 {
     octets::put(out, at, word);
@@ -18,7 +18,7 @@ pub(crate) fn text(out: &mut [u8; ROOM], at: usize, word: &[u8]) -> usize
 
 // A number in decimal.
 fn number(out: &mut [u8; ROOM], at: usize, n: u64) -> usize
-    requires { ⌜ at + 20 ≤ 192 ⌝ }
+    requires { ⌜ at + 20 ≤ 1280 ⌝ }
     ensures { λ r. ⌜ Placed (decimal n) (now (out .entry)) (now (out .exit)) at r ⌝ }
     ensures { λ r. ⌜ r ≤ at + 20 ⌝ }
 {
@@ -29,7 +29,7 @@ fn number(out: &mut [u8; ROOM], at: usize, n: u64) -> usize
 
 // A signed number in decimal.
 pub(crate) fn signed(out: &mut [u8; ROOM], at: usize, z: i64) -> usize
-    requires { ⌜ at + 21 ≤ 192 ⌝ }
+    requires { ⌜ at + 21 ≤ 1280 ⌝ }
     ensures { λ r. ⌜ Placed (signedDecimal z) (now (out .entry)) (now (out .exit)) at r ⌝ }
     ensures { λ r. ⌜ r ≤ at + 21 ⌝ }
 {
@@ -43,7 +43,7 @@ pub(crate) fn signed(out: &mut [u8; ROOM], at: usize, z: i64) -> usize
 
 // A word and the number behind it.
 pub(crate) fn field(out: &mut [u8; ROOM], at: usize, word: &[u8], n: u64) -> usize
-    requires { ⌜ at + length (now word) + 20 ≤ 192 ⌝ }
+    requires { ⌜ at + length (now word) + 20 ≤ 1280 ⌝ }
     ensures { λ r. ⌜ Placed (now (word .entry) ++ decimal n) (now (out .entry)) (now (out .exit)) at r ⌝ }
     ensures { λ r. ⌜ r ≤ at + length (now (word .entry)) + 20 ⌝ }
 {
@@ -53,7 +53,7 @@ pub(crate) fn field(out: &mut [u8; ROOM], at: usize, word: &[u8], n: u64) -> usi
 
 // A number in 16 hexadecimal digits.
 pub(crate) fn hex(out: &mut [u8; ROOM], at: usize, n: u64) -> usize
-    requires { ⌜ at + 16 ≤ 192 ⌝ }
+    requires { ⌜ at + 16 ≤ 1280 ⌝ }
     ensures { λ r. ⌜ Placed (digits 16 16 n) (now (out .entry)) (now (out .exit)) at r ⌝ }
     ensures { λ r. ⌜ r ≤ at + 16 ⌝ }
 {
@@ -64,8 +64,9 @@ pub(crate) fn hex(out: &mut [u8; ROOM], at: usize, n: u64) -> usize
 
 // The last field of the line, with its newline.
 pub(crate) fn last(out: &mut [u8; ROOM], at: usize, word: &[u8], n: u64) -> usize
-    requires { ⌜ at + length (now word) + 21 ≤ 192 ⌝ }
+    requires { ⌜ at + length (now word) + 21 ≤ 1280 ⌝ }
     ensures { λ r. ⌜ Placed (now (word .entry) ++ decimal n ++ newline) (now (out .entry)) (now (out .exit)) at r ⌝ }
+    ensures { λ r. ⌜ r ≤ at + length (now (word .entry)) + 21 ⌝ }
 {
     let end = field(out, at, word, n);
     text(out, end, b"\n")

@@ -75,21 +75,21 @@ returns c =
     let s = c .before .before .before .before .before .before .before .before .before .before .before .before .before .before .args .message .now in
     let e = ap length (c .before .before .before .before .before .before .before .before .before .before .before .before .carried .ensures) in
     let f = ap readAnswer (sym (c .before .before .before .before .before .before .before .before .before .header .given .1)) ∙ c .before .before .before .before .before .before .before .before .before .before .before .read .ensures in
-    whole s e f (then (then (c .before .before .before .before .before .before .header-words .ensures .0) (c .before .before .before .text .ensures)) (c .last .ensures))
+    whole s e f (then (then (c .before .before .before .before .before .before .header-words .ensures .0) (c .before .before .before .text .ensures)) (c .last .ensures .0))
 
 returns-2 : tie.Need-returns-2
 returns-2 c =
     let s = c .before .before .before .before .before .before .before .before .before .before .before .before .before .args .message .now in
     let e = ap length (c .before .before .before .before .before .before .before .before .before .before .before .carried .ensures) in
     let f = ap readAnswer (sym (c .before .before .before .before .before .before .before .before .header2 .given .1)) ∙ c .before .before .before .before .before .before .before .before .before .before .read .ensures in
-    whole s e f (then (then (c .before .before .before .before .before .header-words2 .ensures .0) (c .before .before .before .sub-tlv-words .ensures .0)) (c .last2 .ensures))
+    whole s e f (then (then (c .before .before .before .before .before .header-words2 .ensures .0) (c .before .before .before .sub-tlv-words .ensures .0)) (c .last2 .ensures .0))
 
 returns-3 : tie.Need-returns-3
 returns-3 c =
     let s = c .before .before .before .before .before .before .before .before .before .args .message .now in
     let e = ap length (c .before .before .before .before .before .before .before .carried .ensures) in
     let f = ap readAnswer (sym (c .before .before .before .before .n .given .1)) ∙ c .before .before .before .before .before .before .read .ensures in
-    whole s e f (c .last3 .ensures)
+    whole s e f (c .last3 .ensures .0)
 
 pub line-spec : {M : Type 1} → statement M
 line-spec =

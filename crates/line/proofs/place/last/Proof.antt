@@ -1,5 +1,6 @@
 -- `last` meets its contract: the newline stands behind the field.
 -- Assumes nothing.
+use native.Mathlib.Omega.{arith}
 use Rattle.line.proofs.Placing.{then}
 use borrow.Author.Needs.{needs}
 use Rattle.line.proofs.place.last.Statement.{statement}
@@ -15,7 +16,7 @@ text-requires : tie.Need-text-requires
 text-requires c κs = search needs
 
 returns : tie.Need-returns
-returns c = then (c .before .before .before .field .ensures .0) (c .text .ensures)
+returns c = (then (c .before .before .before .field .ensures .0) (c .text .ensures), omega (arith, c .text .ensures .ends))
 
 pub last-spec : {M : Type 1} → statement M
 last-spec = tie.close (tie.spec field-requires slice-aggregate-text text-requires returns)

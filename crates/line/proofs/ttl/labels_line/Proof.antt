@@ -42,7 +42,7 @@ returns-2 c =
     let n = c .before .before .before .before .n2 .given in
     left (labelsLeft (Refused (n .0 .0)) o) (labelsOf (a .hops .now) (a .set .now) (a .position) (a .label) (replicate 8 0))
     (ap (λ (y : Ttl). labelsLeft y o) (sym (n .1)) ∙ p .write .ensures)
-    (c .last .ensures)
+    (c .last .ensures .0)
 
 pub labels-line-spec : {M : Type 1} → statement M
 labels-line-spec =

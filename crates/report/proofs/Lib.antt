@@ -1,0 +1,6 @@
+pub mod Captures
+pub mod Counting
+pub mod Rooms
+pub mod Extremes
+pub mod OnPads
+pub mod Examples

@@ -1,0 +1,4 @@
+pub mod Events
+pub mod Report
+pub mod Promises
+pub mod Room
