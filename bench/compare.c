@@ -49,6 +49,7 @@ CALL(address_entry, to->first, in->first_size, in->place, &to->told->part)
 CALL(next_ttl, to->first, in->first_size, to->second, in->second_size, in->place, &to->told->ttl)
 CALL(write_labels, to->first, in->first_size, to->second, in->second_size, in->place, in->label, to->output,
      in->room)
+CALL(replay, to->first, in->first_size, &to->told->report)
 
 static uint8_t library_write(struct lent *to, struct rtm_table *table, const struct input *in) {
     (void)table;
@@ -81,6 +82,7 @@ static uint8_t own_new(struct lent *to, struct plain_table *table, const struct 
 
 #define READING "1 2 3 4 5 6 7 8"
 #define COUNTS "0 1 2 3 4 5 6 7 8 9 10 11 12 13 14 15 16"
+#define REPORTED "64 65 66 67 68 " READING " 9 10 13 14 15 16"      /* the counts of a report that must come */
 #define SAME(name) #name, library_##name, own_##name
 
 static const struct operation {
@@ -107,10 +109,12 @@ static const struct operation {
     {SAME(address_entry), input_for_list, 4, "0 19 20 21"},
     {SAME(next_ttl), input_for_path, 12, "0 19 20 21 24"},
     {SAME(write_labels), input_for_path, 8, "0 19 20 21 24 25 12"},
+    {SAME(replay), input_for_capture, 6, "0 26"},
 };
 enum { OPERATIONS = sizeof operations / sizeof *operations, DISTANCES = 127 };
 
 static uint64_t seen[OPERATIONS][256], seen_ttl[256];
+static uint64_t seen_reported[256];          /* in how many reports each answer was counted */
 
 /* The input that is being tried, for the report. */
 static struct input input;
@@ -274,6 +278,16 @@ static void check_refusal(const struct lent *lent, const struct rtm_table *table
     same("table after a refusal", table, &input.table, sizeof input.table);
 }
 
+static void see_report(const struct rtm_report *report) {
+    int i;
+    for (i = 0; i <= RTM_NOT_FOR_TWO_STEP; i++) seen_reported[i] += report->refused[i] > 0;
+    seen_reported[RTM_UPDATED] += report->updated > 0;
+    seen_reported[RTM_PASSED] += report->passed > 0;
+    seen_reported[RTM_CREATED] += report->created > 0;
+    seen_reported[RTM_WAITING] += report->waiting > 0;
+    seen_reported[RTM_ADDED] += report->added > 0;
+}
+
 static uint8_t compare(const struct memory *library, const struct memory *plain) {
     struct lent ours = lend_all(library), own = lend_all(plain), handed = with_nulls(ours);
     struct rtm_table *table = lend(library->table, &input.table, sizeof input.table), after;
@@ -298,6 +312,7 @@ static uint8_t compare(const struct memory *library, const struct memory *plain)
     if (start > input.room) same("size written", &start, &input.room, sizeof start);
     same("output beyond", ours.output + start, input.output + start, input.room - start);
     if (operation->library == library_next_ttl && answer == 0) seen_ttl[ours.told->ttl]++;
+    if (operation->library == library_replay && answer == 0) see_report(&ours.told->report);
     return answer;
 }
 
@@ -310,24 +325,21 @@ static unsigned some_operation(void) {
     return i;
 }
 
-/* Prints how often each answer came. Answers how many that must come did not. */
-static int print_answers(void) {
+/* Prints how often each of the answers came that must come. Answers how many did not. */
+static int print_answers(const char *name, const char *answers, const uint64_t *came) {
     static const char *const words[] = {"updated", "passed", "created", "waiting", "added"};
-    int i, missing = 0;
-    for (i = 0; i < OPERATIONS; i++) {
-        const char *rest = operations[i].answers;
-        printf("%-14s", operations[i].name);
-        while (*rest != 0) {
-            char *end;
-            unsigned long answer = strtoul(rest, &end, 10);
-            if (answer >= RTM_UPDATED) printf(" %s", words[answer - RTM_UPDATED]);
-            else printf(" %lu", answer);
-            printf(":%" PRIu64, seen[i][answer]);
-            if (seen[i][answer] == 0) missing++;
-            rest = end;
-        }
-        printf("\n");
+    int missing = 0;
+    printf("%-14s", name);
+    while (*answers != 0) {
+        char *end;
+        unsigned long answer = strtoul(answers, &end, 10);
+        if (answer >= RTM_UPDATED) printf(" %s", words[answer - RTM_UPDATED]);
+        else printf(" %lu", answer);
+        printf(":%" PRIu64, came[answer]);
+        if (came[answer] == 0) missing++;
+        answers = end;
     }
+    printf("\n");
     return missing;
 }
 
@@ -337,6 +349,15 @@ static int print_distances(void) {
     for (ttl = 1; ttl <= DISTANCES; ttl++) missing += seen_ttl[ttl] == 0;
     printf("%-14s %d of %d\n", "distances", DISTANCES - missing, DISTANCES);
     return missing;
+}
+
+/* Prints all that came. Answers how many that must come did not. */
+static int print_seen(void) {
+    int i, missing = 0;
+    for (i = 0; i < OPERATIONS; i++) {
+        missing += print_answers(operations[i].name, operations[i].answers, seen[i]);
+    }
+    return missing + print_answers("in reports", REPORTED, seen_reported) + print_distances();
 }
 
 int main(int argc, char **argv) {
@@ -352,9 +373,9 @@ int main(int argc, char **argv) {
         operation->input(&input);
         seen[i][compare(&library, &plain)]++;
     }
-    missing = print_answers() + print_distances();
+    missing = print_seen();
     printf("library and plain C agree on %" PRIu64 " inputs of seed %" PRIu64 "\n", inputs, seed);
     if (missing == 0 || inputs < 100000) return 0;
-    printf("%d answers or distances did not come\n", missing);
+    printf("%d answers, counts or distances did not come\n", missing);
     return 1;
 }

@@ -46,6 +46,12 @@ static void put(uint8_t *at, size_t octets, uint64_t number) {
     }
 }
 
+static uint64_t get(const uint8_t *at, size_t octets) {
+    uint64_t number = 0;
+    while (octets-- > 0) number = number << 8 | *at++;
+    return number;
+}
+
 /* Numbers at the ends of their ranges. */
 
 /* In nanoseconds: few, so that a pad can lie just below the largest by one of them. */
@@ -98,21 +104,30 @@ static struct rtm_stamp ntp_later(struct rtm_stamp entry, uint64_t difference) {
     return exit;
 }
 
-static void some_stamps(struct input *input) {
-    static const uint64_t differences[] = {0, 1, 65536, (UINT64_C(1) << 34) - 1, UINT64_C(1) << 34};
+static struct rtm_stamp some_entry(bool ntp) {
     static const uint32_t seconds[] = {0, 1, UINT32_MAX - 1, UINT32_MAX};
-    input->ntp = once_in(2);
-    input->entry.seconds = once_in(2) ? PICK(seconds) : (uint32_t)any();
-    input->entry.part = input->ntp ? (uint32_t)any() : some_part();
+    struct rtm_stamp entry;
+    entry.seconds = once_in(2) ? PICK(seconds) : (uint32_t)any();
+    entry.part = ntp ? (uint32_t)any() : some_part();
+    return entry;
+}
+
+static struct rtm_stamp some_exit(bool ntp, struct rtm_stamp entry) {
+    static const uint64_t differences[] = {0, 1, 65536, (UINT64_C(1) << 34) - 1, UINT64_C(1) << 34};
+    struct rtm_stamp exit;
     if (once_in(8)) {
-        input->exit.seconds = input->entry.seconds + (uint32_t)inputs_below(6) - 2;
-        input->exit.part = some_part();
-    } else if (input->ntp) {
-        uint64_t difference = once_in(3) ? PICK(differences) : inputs_below(UINT64_C(5) << 32);
-        input->exit = ntp_later(input->entry, difference);
-    } else {
-        input->exit = ptp_later(input->entry, some_residence());
+        exit.seconds = entry.seconds + (uint32_t)inputs_below(6) - 2;
+        exit.part = some_part();
+        return exit;
     }
+    if (!ntp) return ptp_later(entry, some_residence());
+    return ntp_later(entry, once_in(3) ? PICK(differences) : inputs_below(UINT64_C(5) << 32));
+}
+
+static void some_stamps(struct input *input) {
+    input->ntp = once_in(2);
+    input->entry = some_entry(input->ntp);
+    input->exit = some_exit(input->ntp, input->entry);
 }
 
 /* Identities: 32 of them, so that messages, records and images meet. */
@@ -426,4 +441,102 @@ void input_for_path(struct input *input) {
     input->place = once_in(8) ? PICK(ends) : from;
     input->label = some_label();
     input->room = some_room(RTM_LABELS_SIZE);
+}
+
+/* Captures. */
+
+/* What the calls of one capture have in common. */
+struct captured {
+    uint64_t identities;         /* the messages' identities are among so many */
+    uint64_t ticks;              /* one body in so many is a tick */
+    bool filling;                /* two-step calls, mostly on messages whose residence waits */
+};
+
+/* Mostly two that are not refused. */
+static void put_stamps(uint8_t *at) {
+    struct rtm_stamp entry = some_entry(RTM_PTP), exit = some_exit(RTM_PTP, entry);
+    if (!once_in(3)) {
+        entry.part %= SECOND;
+        exit = ptp_later(entry, inputs_below(4 * SECOND));
+    }
+    put(at, 4, entry.seconds);
+    put(at + 4, 4, entry.part);
+    put(at + 8, 4, exit.seconds);
+    put(at + 12, 4, exit.part);
+}
+
+/* A message that a two-step node has much to do with, short or near the largest, or any. Answers its size. */
+static size_t captured_message(uint8_t *message, size_t room, const struct captured *captured) {
+    struct identity identity = identity_at(inputs_below(captured->identities));
+    uint64_t ptp_type = (captured->filling || once_in(2) ? 0 : 8) + inputs_below(2);
+    size_t size = room >= 2049 && once_in(8) ? 2047 + inputs_below(3) : 36;
+    if (once_in(6)) return some_message(message);
+    lay_message(message, size, (uint16_t)(2 + inputs_below(3)));
+    message[23] = (uint8_t)((message[23] & 0xF0) | ptp_type);
+    put(message + 24, 8, identity.clock);
+    put(message + 32, 2, identity.port);
+    put(message + 34, 2, identity.sequence);
+    return size;
+}
+
+/* A call, with an empty message or cut off at times. Answers its size. */
+static size_t lay_call(uint8_t *body, size_t room, const struct captured *captured) {
+    size_t size = 17 + captured_message(body + 17, room - 17, captured);
+    body[0] = captured->filling || !once_in(4) ? 2 : 1;
+    put_stamps(body + 1);
+    if (once_in(32)) size = once_in(16) ? 16 : 17;
+    return size < room ? size : room;
+}
+
+/* At times with an octet too many. Answers its size. */
+static size_t lay_tick(uint8_t *body) {
+    body[0] = 3;
+    return once_in(2048) ? 2 : 1;
+}
+
+/* Calls and ticks; but ticks once there is no room for a call, two octets for each later body and 17 behind. */
+static size_t lay_capture(uint8_t *capture, size_t bodies, const struct captured *captured) {
+    size_t k, at = 2 + 4 * bodies;
+    put(capture, 2, bodies);
+    for (k = 0; k < bodies; k++) {
+        size_t room = MOST - 17 - at - 2 * (bodies - k);
+        bool call = room >= 17 + 36 && !once_in(captured->ticks);
+        put(capture + 2 + 4 * k, 4, at);
+        at += call ? lay_call(capture + at, room, captured) : lay_tick(capture + at);
+    }
+    return at;
+}
+
+/* One thing that is wrong, or may be, in a capture of some bodies. Answers the size. */
+static size_t spoil_capture(uint8_t *capture, size_t size, size_t bodies) {
+    uint8_t *offset = capture + 2 + 4 * inputs_below(bodies);
+    uint8_t *body = capture + get(offset, 4), *last = capture + get(capture + 4 * bodies - 2, 4);
+    switch (inputs_below(11)) {
+    case 0: put(offset, 4, near(get(offset, 4))); return size;
+    case 1: put(offset, 4, UINT32_MAX - inputs_below(3 * MOST)); return size;
+    case 2: offset[inputs_below(2)] = (uint8_t)any(); return size;
+    case 3: capture[inputs_below(2 + 4 * bodies)] ^= (uint8_t)(1u << inputs_below(8)); return size;
+    case 4: put(capture, 2, near(bodies)); return size;
+    case 5: body[0] = (uint8_t)inputs_below(5); return size;
+    case 6: last[0] = 3; return (size_t)(last - capture) + inputs_below(3);
+    case 7: last[0] = 2; return (size_t)(last - capture) + 15 + inputs_below(3);
+    case 8: return inputs_below(size);
+    case 9: return size - 1;
+    default: return size + 1;
+    }
+}
+
+void input_for_capture(struct input *input) {
+    static const size_t ends[] = {0, 1, 255, 256, 257};
+    static const uint64_t identities[] = {1, 2, 8}, ticks[] = {2, 8, 64};
+    size_t bodies = once_in(8) ? PICK(ends) : 1 + inputs_below(once_in(4) ? 8 : 40);
+    struct captured captured;
+    captured.identities = PICK(identities);
+    captured.ticks = PICK(ticks);
+    captured.filling = bodies > 32 && captured.ticks == 64;
+    if (captured.filling) captured.identities = IDENTITIES;
+    random_input(input);
+    input->first_size = lay_capture(input->first, bodies, &captured);
+    if (bodies > 0 && once_in(3)) input->first_size = spoil_capture(input->first, input->first_size, bodies);
+    else if (once_in(32)) input->first_size = inputs_below(4);
 }

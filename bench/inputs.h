@@ -13,13 +13,14 @@ struct told {
     struct rtm_fields fields;
     struct rtm_part part;
     struct rtm_joined joined;
+    struct rtm_report report;
     uint64_t units;
     size_t size;
     uint8_t ttl;
 };
 
 struct input {
-    uint8_t first[MOST];         /* a message, Sync, carried packet, image or list; hops */
+    uint8_t first[MOST];         /* a message, Sync, carried packet, image, list or capture; hops */
     uint8_t second[MOST];        /* a Follow_Up; the RTM_SET of hops */
     uint8_t output[MOST];        /* what the output holds before the call */
     size_t first_size, second_size, room, place;
@@ -40,5 +41,6 @@ void input_for_pair(struct input *input);
 void input_for_image(struct input *input);
 void input_for_list(struct input *input);
 void input_for_path(struct input *input);      /* hops, a set, a position, a label and an output */
+void input_for_capture(struct input *input);
 
 #endif

@@ -39,6 +39,12 @@ static inline uint16_t get16(const uint8_t *at) {
     return be16toh(x);
 }
 
+static inline uint32_t get32(const uint8_t *at) {
+    uint32_t x;
+    memcpy(&x, at, sizeof x);
+    return be32toh(x);
+}
+
 static inline uint64_t get64(const uint8_t *at) {
     uint64_t x;
     memcpy(&x, at, sizeof x);
@@ -188,16 +194,22 @@ static inline void add_to_pad(uint8_t *message, uint64_t units) {
     put64(message + PAD, sum ^ SIGN);
 }
 
-uint8_t plain_one_step(uint8_t *message, size_t size, bool ntp, struct rtm_stamp entry,
-                       struct rtm_stamp exit) {
-    uint64_t units;
+/* It tells the residence that it puts on the pad. */
+static inline uint8_t one_step(uint8_t *message, size_t size, bool ntp, struct rtm_stamp entry,
+                               struct rtm_stamp exit, uint64_t *units) {
     uint8_t refusal = check(message, size);
     if (refusal) return refusal;
     if (is_ptp(get16(message + TYPE)) && ptp_type(message) > PDELAY_RESP) return RTM_PASSED;
-    refusal = units_between(ntp, entry, exit, &units);
+    refusal = units_between(ntp, entry, exit, units);
     if (refusal) return refusal;
-    add_to_pad(message, units);
+    add_to_pad(message, *units);
     return RTM_UPDATED;
+}
+
+uint8_t plain_one_step(uint8_t *message, size_t size, bool ntp, struct rtm_stamp entry,
+                       struct rtm_stamp exit) {
+    uint64_t units;
+    return one_step(message, size, ntp, entry, exit, &units);
 }
 
 /* The table */
@@ -313,44 +325,48 @@ static inline uint8_t create(uint8_t *sync, uint64_t units, uint8_t *output, siz
     return RTM_CREATED;
 }
 
-static inline uint8_t collect(struct plain_table *table, uint8_t *message, uint8_t kind, enum order order) {
+static inline uint8_t collect(struct plain_table *table, uint8_t *message, uint8_t kind, enum order order,
+                              uint64_t *units) {
     struct identity identity = identity_of(message, kind);
     struct plain_record *slot = find(table, &identity, order);
     if (!slot) return RTM_NO_RECORD;
-    add_to_pad(message, slot->residence);
+    *units = slot->residence;
+    add_to_pad(message, *units);
     memset(slot, 0, sizeof *slot);
     fewer(table, 1);
     return RTM_ADDED;
 }
 
+/* It tells the residence that it puts on a pad or into the table. */
 static inline uint8_t two_step(struct plain_table *table, uint8_t *message, size_t size, uint8_t *output,
                                size_t room, bool ntp, struct rtm_stamp entry, struct rtm_stamp exit,
-                               enum order order) {
+                               enum order order, uint64_t *units) {
     struct identity identity;
-    uint64_t units;
     uint8_t kind, refusal = check(message, size);
     if (refusal) return refusal;
     if (!is_ptp(get16(message + TYPE))) return RTM_NOT_FOR_TWO_STEP;
     kind = ptp_type(message);
-    if (kind == FOLLOW_UP) return collect(table, message, KIND_SYNC, order);
-    if (kind == DELAY_RESP) return collect(table, message, KIND_DELAY, order);
+    if (kind == FOLLOW_UP) return collect(table, message, KIND_SYNC, order, units);
+    if (kind == DELAY_RESP) return collect(table, message, KIND_DELAY, order, units);
     if (kind > PDELAY_RESP) return RTM_PASSED;
     if (kind > DELAY_REQ) return RTM_NOT_FOR_TWO_STEP;
-    refusal = units_between(ntp, entry, exit, &units);
+    refusal = units_between(ntp, entry, exit, units);
     if (refusal) return refusal;
-    if (kind == SYNC && (message[FLAGS] & S) == 0) return create(message, units, output, room);
+    if (kind == SYNC && (message[FLAGS] & S) == 0) return create(message, *units, output, room);
     identity = identity_of(message, kind == SYNC ? KIND_SYNC : KIND_DELAY);
-    return keep(table, &identity, units, order);
+    return keep(table, &identity, *units, order);
 }
 
 uint8_t plain_two_step(struct plain_table *table, uint8_t *message, size_t size, uint8_t *output, size_t room,
                        bool ntp, struct rtm_stamp entry, struct rtm_stamp exit) {
-    return two_step(table, message, size, output, room, ntp, entry, exit, AS_WRITTEN);
+    uint64_t units;
+    return two_step(table, message, size, output, room, ntp, entry, exit, AS_WRITTEN, &units);
 }
 
 uint8_t plain_two_step_by_sequence(struct plain_table *table, uint8_t *message, size_t size, uint8_t *output,
                                    size_t room, bool ntp, struct rtm_stamp entry, struct rtm_stamp exit) {
-    return two_step(table, message, size, output, room, ntp, entry, exit, BY_SEQUENCE);
+    uint64_t units;
+    return two_step(table, message, size, output, room, ntp, entry, exit, BY_SEQUENCE, &units);
 }
 
 /* Images: the number of records, their offsets, then the records */
@@ -539,5 +555,100 @@ uint8_t plain_write_labels(const uint8_t *hops, size_t hops_size, const uint8_t 
     if (room < RTM_LABELS_SIZE) return RTM_OUTPUT_TOO_SMALL;
     put32(output, label << 12 | ttl);
     put32(output + 4, GAL_ENTRY);
+    return 0;
+}
+
+/* Captures: the number of bodies, their offsets, then the bodies */
+
+enum { LARGEST_CAPTURE = 65536, MOST_BODIES = 256, COUNT_SIZE = 2, BODY_OFFSET_SIZE = 4 };
+enum { ONE_STEP = 1, TWO_STEP = 2, TICK = 3 };
+enum { AT_ENTRY = 1, AT_EXIT = 9, AT_MESSAGE = 17 };
+
+/* Where the body at a place ends: where the next one starts, or the capture ends. */
+static inline size_t body_end(const uint8_t *capture, size_t size, size_t bodies, size_t place) {
+    if (place + 1 == bodies) return size;
+    return get32(capture + COUNT_SIZE + BODY_OFFSET_SIZE * (place + 1));
+}
+
+static inline bool is_body(const uint8_t *body, size_t size) {
+    if (body[0] == TICK) return size == 1;
+    return (body[0] == ONE_STEP || body[0] == TWO_STEP) && size >= AT_MESSAGE;
+}
+
+static bool is_capture(const uint8_t *capture, size_t size) {
+    size_t bodies, place, at, end;
+    if (size < COUNT_SIZE || size > LARGEST_CAPTURE) return false;
+    bodies = get16(capture);
+    at = COUNT_SIZE + BODY_OFFSET_SIZE * bodies;
+    if (bodies > MOST_BODIES || size < at) return false;
+    if (bodies == 0) return size == at;
+    if (get32(capture + COUNT_SIZE) != at) return false;
+    for (place = 0; place < bodies; place++, at = end) {
+        end = body_end(capture, size, bodies, place);
+        if (end <= at || end > size || !is_body(capture + at, end - at)) return false;
+    }
+    return true;
+}
+
+static inline struct rtm_stamp get_stamp(const uint8_t *at) {
+    struct rtm_stamp stamp;
+    stamp.seconds = get32(at);
+    stamp.part = get32(at + 4);
+    return stamp;
+}
+
+static inline uint8_t run_call(struct plain_table *table, const uint8_t *body, size_t size, uint64_t *units) {
+    uint8_t message[RTM_LARGEST_MESSAGE], output[RTM_CREATED_SIZE];
+    struct rtm_stamp entry = get_stamp(body + AT_ENTRY), exit = get_stamp(body + AT_EXIT);
+    size -= AT_MESSAGE;
+    if (size > sizeof message) return RTM_TOO_LONG;
+    memcpy(message, body + AT_MESSAGE, size);
+    if (body[0] == ONE_STEP) return one_step(message, size, RTM_PTP, entry, exit, units);
+    return two_step(table, message, size, output, sizeof output, RTM_PTP, entry, exit, AS_WRITTEN, units);
+}
+
+/* Whether the call put a residence on a pad. */
+static inline bool is_counted(uint8_t answer) {
+    return answer == RTM_UPDATED || answer == RTM_CREATED || answer == RTM_ADDED;
+}
+
+static inline void count_residence(struct rtm_report *report, uint64_t units) {
+    if (!report->ranged || units < report->least) report->least = units;
+    if (units > report->greatest) report->greatest = units;
+    report->ranged = 1;
+    report->sum += units;
+}
+
+static inline void report_answers(struct rtm_report *report, const uint64_t *answers) {
+    report->updated = answers[RTM_UPDATED];
+    report->passed = answers[RTM_PASSED];
+    report->created = answers[RTM_CREATED];
+    report->waiting = answers[RTM_WAITING];
+    report->added = answers[RTM_ADDED];
+    memcpy(report->refused, answers, sizeof report->refused);
+}
+
+uint8_t plain_replay(const uint8_t *capture, size_t size, struct rtm_report *report) {
+    uint64_t units, answers[RTM_ADDED + 1] = {0};           /* how many of each */
+    struct rtm_report found = {0};
+    struct plain_table table;
+    size_t bodies, place, at, end;
+    if (!is_capture(capture, size)) return RTM_CAPTURE;
+    plain_new(&table);
+    bodies = get16(capture);
+    at = COUNT_SIZE + BODY_OFFSET_SIZE * bodies;
+    for (place = 0; place < bodies; place++, at = end) {
+        uint8_t answer;
+        end = body_end(capture, size, bodies, place);
+        if (capture[at] == TICK) {
+            plain_tick(&table);
+            continue;
+        }
+        answer = run_call(&table, capture + at, end - at, &units);
+        answers[answer]++;
+        if (is_counted(answer)) count_residence(&found, units);
+    }
+    report_answers(&found, answers);
+    *report = found;
     return 0;
 }

@@ -45,5 +45,6 @@ uint8_t plain_next_ttl(const uint8_t *hops, size_t hops_size, const uint8_t *set
                        size_t position, uint8_t *ttl);
 uint8_t plain_write_labels(const uint8_t *hops, size_t hops_size, const uint8_t *set, size_t set_size,
                            size_t position, uint32_t label, uint8_t *output, size_t room);
+uint8_t plain_replay(const uint8_t *capture, size_t size, struct rtm_report *report);
 
 #endif

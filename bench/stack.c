@@ -45,6 +45,7 @@ CALL(address_entry, input.first, input.first_size, input.place, &input.told.part
 CALL(next_ttl, input.first, input.first_size, input.second, input.second_size, input.place, &input.told.ttl)
 CALL(write_labels, input.first, input.first_size, input.second, input.second_size, input.place, input.label,
      input.output, input.room)
+CALL(replay, input.first, input.first_size, &input.told.report)
 
 #define MEASURED(name) #name, call_##name, (function *)rtm_##name
 
@@ -70,6 +71,7 @@ static const struct measured {
     {MEASURED(address_entry), input_for_list},
     {MEASURED(next_ttl), input_for_path},
     {MEASURED(write_labels), input_for_path},
+    {MEASURED(replay), input_for_capture},
 };
 enum { FUNCTIONS = sizeof measured / sizeof *measured };
 

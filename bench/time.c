@@ -11,6 +11,7 @@
 
 enum { PACKET = 44, ENTRIES = 51, ENTRY = 20, TICKS = 250, PAGE = 4096 };
 enum { IPV4 = 1, IPV6 = 2, IPV4_ENTRY = 8, HOPS = 5, IN_SET = 3, LABEL = 299776 };
+enum { ONE_STEP = 1, TWO_STEP = 2, BODY = 17 + MESSAGE, BODIES = 256, FIRST_BODY = 2 + 4 * BODIES };
 
 /* From libby_value.a: `count` pairs at a two-step node, called from Rattle code with the table by value or
    lent. They answer how many pairs went well. */
@@ -19,7 +20,10 @@ uint64_t bench_pairs(uint8_t *sync, size_t sync_size, uint8_t *follow_up, size_t
 uint64_t bench_pairs_lent(uint8_t *sync, size_t sync_size, uint8_t *follow_up, size_t follow_up_size,
                           uint8_t *output, size_t room, uint64_t count);
 
-/* What the calls are lent. */
+/* What the calls are lent. The capture is first, which puts it behind the others in memory: it does not move an
+   output over the end of a page. */
+static uint8_t capture[FIRST_BODY + BODIES * BODY];
+static struct rtm_report report;
 static uint8_t sync[MESSAGE], clear[MESSAGE], follow_up[MESSAGE];     /* Sync with S set, and with S clear */
 static uint8_t packet[PACKET], output[RTM_LARGEST_MESSAGE], image[RTM_IMAGE_SIZE], list[ENTRIES * ENTRY];
 static uint8_t hops[ENTRIES * ENTRY], set[ENTRIES * ENTRY], ttl;
@@ -102,6 +106,39 @@ static void prepare_ticks(void) {
     plain_full = plain_table;
 }
 
+static void put(uint8_t *at, int octets, uint32_t number) {
+    while (octets-- > 0) {
+        at[octets] = (uint8_t)number;
+        number >>= 8;
+    }
+}
+
+/* A call of a capture, on a message of its own sequence. */
+static void lay_body(int place, uint8_t mode, uint8_t flags, uint8_t ptp_type, int sequence) {
+    int at = FIRST_BODY + place * BODY;
+    uint8_t *body = capture + at;
+    put(capture + 2 + 4 * place, 4, (uint32_t)at);
+    body[0] = mode;
+    put(body + 1, 4, entry.seconds);
+    put(body + 5, 4, entry.part);
+    put(body + 9, 4, leave.seconds);
+    put(body + 13, 4, leave.part + (uint32_t)place);
+    lay_message(body + 17, flags, ptp_type);
+    put(body + 17 + 34, 2, (uint32_t)sequence);
+}
+
+/* As many calls that wait, are added, updated and created. */
+static void prepare_capture(void) {
+    int i;
+    put(capture, 2, BODIES);
+    for (i = 0; i < BODIES; i += 4) {
+        lay_body(i, TWO_STEP, 0x80, 0, i);
+        lay_body(i + 1, TWO_STEP, 0x80, 8, i);
+        lay_body(i + 2, ONE_STEP, 0, 0, i + 2);
+        lay_body(i + 3, TWO_STEP, 0, 0, i + 3);
+    }
+}
+
 /* Loops of one call, for the library and for plain C. They answer how many calls answered otherwise. */
 
 #define LOOP(name, answer, function, ...) \
@@ -130,6 +167,7 @@ LOOP(address_count, 0, address_count, list, sizeof list, &size)
 LOOP(next_ttl, 0, next_ttl, hops, sizeof hops, set, sizeof set, 0, &ttl)
 LOOP(write_labels, 0, write_labels, hops, HOPS * IPV4_ENTRY, set, IN_SET * IPV4_ENTRY, 0, LABEL, output,
      sizeof output)
+LOOP(replay, 0, replay, capture, sizeof capture, &report)
 
 /* S is cleared again before each call. */
 LOOP(created, RTM_CREATED, two_step, table, (clear[20] = 0, clear), MESSAGE, output, sizeof output, RTM_PTP,
@@ -226,6 +264,7 @@ static const struct timed rows[] = {
     {"address list counted, 51 entries", prepare, own_address_count, library_address_count},
     {"next TTL, 51 hops, 51 in RTM_SET", prepare_last, own_next_ttl, library_next_ttl},
     {"label entries, 5 hops, 3 in RTM_SET", prepare_few, own_write_labels, library_write_labels},
+    {"capture of 256 calls", prepare_capture, own_replay, library_replay},
     {"from Rattle: Sync and Follow_Up, lent", prepare, own_pair, lent_from_rattle},
     {"from Rattle: the same, table by value", prepare, own_pair, by_value},
     {"  where a copy crosses a page", prepare, own_pair, by_value_across},

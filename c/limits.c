@@ -65,6 +65,12 @@ static void layout(void) {
     CHECK(offsetof(struct rtm_slot, residence) == 16);
     CHECK(SIZE_OF(rtm_table) == 512 && offsetof(struct rtm_table, number) == 0);
     CHECK(offsetof(struct rtm_table, reserved) == 1 && offsetof(struct rtm_table, slot) == 128);
+    CHECK(SIZE_OF(rtm_report) == 208 && offsetof(struct rtm_report, updated) == 0);
+    CHECK(offsetof(struct rtm_report, passed) == 8 && offsetof(struct rtm_report, created) == 16);
+    CHECK(offsetof(struct rtm_report, waiting) == 24 && offsetof(struct rtm_report, added) == 32);
+    CHECK(offsetof(struct rtm_report, refused) == 40 && offsetof(struct rtm_report, ranged) == 176);
+    CHECK(offsetof(struct rtm_report, least) == 184 && offsetof(struct rtm_report, greatest) == 192);
+    CHECK(offsetof(struct rtm_report, sum) == 200);
 }
 
 /* What each member is, seen from the octets of a message and of a table. */
@@ -235,6 +241,105 @@ static void labels(void) {
     CHECK(as_it_came(output + 9, 7));
 }
 
+static void put(uint8_t *at, size_t count, size_t number) {
+    while (count-- > 0) {
+        at[count] = (uint8_t)number;
+        number >>= 8;
+    }
+}
+
+static bool all_zeros(const struct rtm_report *report) {
+    struct rtm_report zeros;
+    memset(&zeros, 0, sizeof zeros);
+    return memcmp(report, &zeros, sizeof zeros) == 0;
+}
+
+/* So many ticks. Answers the capture's size. */
+static size_t put_ticks(uint8_t *capture, size_t ticks) {
+    size_t i, first = 2 + 4 * ticks;
+    put(capture, 2, ticks);
+    for (i = 0; i < ticks; i++) put(capture + 2 + 4 * i, 4, first + i);
+    memset(capture + first, 3, ticks);
+    return first + ticks;
+}
+
+/* The smallest and the largest captures, and what is beyond them. */
+static void ends_of_captures(void) {
+    static uint8_t capture[65537];
+    struct rtm_report report;
+    LAY(report), LAY(capture);
+    CHECK(rtm_replay(NULL, 0, &report) == RTM_CAPTURE && STAYED(report));
+    put(capture, 2, 0);
+    CHECK(rtm_replay(capture, 1, &report) == RTM_CAPTURE && STAYED(report));
+    CHECK(rtm_replay(capture, 3, &report) == RTM_CAPTURE && STAYED(report));
+    CHECK(rtm_replay(capture, 2, &report) == 0 && all_zeros(&report));
+    LAY(report);
+    CHECK(rtm_replay(capture, put_ticks(capture, 257), &report) == RTM_CAPTURE && STAYED(report));
+    CHECK(rtm_replay(capture, put_ticks(capture, 256), &report) == 0 && all_zeros(&report));
+    LAY(report), LAY(capture);
+    put(capture, 2, 1), put(capture + 2, 4, 6), put(capture + 6, 1, 2);
+    CHECK(rtm_replay(capture, 65537, &report) == RTM_CAPTURE && STAYED(report));
+    CHECK(rtm_replay(capture, 65536, &report) == 0 && report.refused[RTM_TOO_LONG] == 1);
+    report.refused[RTM_TOO_LONG] = 0;
+    CHECK(all_zeros(&report) && as_it_came(capture + 7, sizeof capture - 7));
+}
+
+/* Bodies of a capture. The calls are on messages of 36 octets, and on an empty one. */
+enum { BODIES = 6 };
+static const struct body {
+    uint8_t mode, flags, ptp_type, size;
+    size_t leave;                /* nanoseconds of the exit stamp; with 500 the residence is 1,500 ns */
+} bodies[BODIES] = {
+    {2, 0x80, 0, 53, 500},       /* waits */
+    {3, 0, 0, 1, 0},
+    {2, 0x80, 8, 53, 900},       /* added: 1,500 ns */
+    {1, 0, 0, 53, 400},          /* updated: 1,400 ns */
+    {2, 0, 0, 53, 700},          /* created: 1,700 ns */
+    {1, 0, 0, 17, 500}           /* refused with 1 */
+};
+
+static void put_body(uint8_t *at, const struct body *body) {
+    at[0] = body->mode;
+    put(at + 1, 4, entry.seconds), put(at + 5, 4, entry.part);
+    put(at + 9, 4, leave.seconds), put(at + 13, 4, body->leave);
+    message_of(at + 17, body->flags, body->ptp_type);
+}
+
+/* Answers the capture's size. What a body has too much of, the next one covers. */
+static size_t put_bodies(uint8_t *capture) {
+    size_t i, at = 2 + 4 * BODIES;
+    put(capture, 2, BODIES);
+    for (i = 0; i < BODIES; i++) {
+        put(capture + 2 + 4 * i, 4, at);
+        put_body(capture + at, &bodies[i]);
+        at += bodies[i].size;
+    }
+    return at;
+}
+
+/* A capture at an odd address. */
+static void captured(void) {
+    uint64_t memory[40], before[40];
+    uint8_t *capture = (uint8_t *)memory + 1;
+    struct rtm_report report;
+    size_t size;
+    LAY(report), LAY(memory);
+    size = put_bodies(capture);
+    memcpy(before, memory, sizeof before);
+    CHECK(size == 256 && rtm_replay(capture, size, &report) == 0);
+    CHECK(memcmp(memory, before, sizeof before) == 0);
+    CHECK(report.updated == 1 && report.passed == 0 && report.created == 1);
+    CHECK(report.waiting == 1 && report.added == 1 && report.refused[RTM_TOO_SHORT] == 1);
+    CHECK(report.ranged == 1 && report.least == 1400 * 65536 && report.greatest == 1700 * 65536);
+    CHECK(report.sum == 4600 * 65536);
+    LAY(report);
+    CHECK(rtm_replay(capture, size - 1, &report) == RTM_CAPTURE && STAYED(report));
+    put(capture + 2 + 4 * (BODIES - 1), 4, UINT32_MAX);
+    memcpy(before, memory, sizeof before);
+    CHECK(rtm_replay(capture, size, &report) == RTM_CAPTURE && STAYED(report));
+    CHECK(memcmp(memory, before, sizeof before) == 0);
+}
+
 int main(void) {
     layout();
     members();
@@ -244,6 +349,8 @@ int main(void) {
     refused_paths();
     beyond();
     labels();
+    ends_of_captures();
+    captured();
     printf("limits: %d checked\n", checked);
     return wrong;
 }

@@ -4,10 +4,12 @@
  * A node makes one call for each RTM message, with the stamps of its entry and its exit: rtm_one_step or
  * rtm_two_step. A two-step node keeps a table of residences that wait for their message, and calls rtm_tick
  * once a second. At the egress rtm_join gives the total of a Sync and its Follow_Up. rtm_write_labels gives
- * the label entries that take a message to the next timing node of its path.
+ * the label entries that take a message to the next timing node of its path. All these are in the archive
+ * libbunpennant.a. For support, rtm_replay runs a capture of node calls again and reports on them; it has an
+ * archive of its own, libbunpennant_replay.a.
  *
  * Answers. A call answers 0, or at a node one of the words RTM_UPDATED to RTM_ADDED. Any other number is
- * that of a refusal, RTM_TOO_SHORT to RTM_LABEL: the first that applies, in the order that is
+ * that of a refusal, RTM_TOO_SHORT to RTM_CAPTURE: the first that applies, in the order that is
  * given with each function. A refusal leaves everything that the call was lent exactly as it came. rtm_tick
  * and rtm_waiting answer a count and refuse nothing.
  *
@@ -16,16 +18,16 @@
  *   - A pointer is valid for as many octets as its length or its type says. Until the call returns nothing
  *     else changes these octets, or reads those that the call may write.
  *   - What one call is lent does not overlap.
- *   - Tables, fields, parts, joined pairs and places for a number of 8 octets are 8-aligned, as C aligns
- *     them. Messages, outputs, images, lists and the place for a TTL may lie at any address.
+ *   - Tables, fields, parts, joined pairs, reports and places for a number of 8 octets are 8-aligned, as C
+ *     aligns them. Messages, outputs, images, lists, captures and the place for a TTL may lie at any address.
  *   - The argument ntp holds 0 or 1, as any bool of C does.
- * NULL with a length of 0 is a message, packet, output, image or list of no octets. Nothing is read or
+ * NULL with a length of 0 is a message, packet, output, image, list or capture of no octets. Nothing is read or
  * written through it. No other pointer may be NULL.
  *
  * What the library promises back: every content of what it is lent is good input. It allocates nothing, has
  * no global variable, takes no lock, and keeps nothing when it returns. Calls on different memory may run
- * at the same time, from any thread. One call uses at most 512 octets of stack, one on an image 2,048, and
- * one on an address list 9,216.
+ * at the same time, from any thread. One call uses at most 512 octets of stack, one on an image 2,048, one
+ * on a capture 4,096, and one on an address list 9,216.
  *
  * Words. A residence is the time that a message spends in a node. The scratch pad, or pad, is the sum of
  * residences that a message carries, in units of 1/65,536 ns: nanoseconds times 65,536. A pad of 2^63-1
@@ -76,7 +78,8 @@ enum {
     RTM_IMAGE = 22,              /* no image that can be loaded, or a table that gives none */
     RTM_SUB_TLV_LENGTH = 23,     /* writing types 2 to 4: length neither 20 nor 16 */
     RTM_NO_TIMING_NODE = 24,     /* no hop behind the position is in RTM_SET */
-    RTM_LABEL = 25               /* label below 16 or over 1,048,575 */
+    RTM_LABEL = 25,              /* label below 16 or over 1,048,575 */
+    RTM_CAPTURE = 26             /* no capture */
 };
 
 /* Sizes, in octets. */
@@ -286,6 +289,35 @@ uint8_t rtm_next_ttl(const uint8_t *hops, size_t hops_size, const uint8_t *set, 
 uint8_t rtm_write_labels(const uint8_t *hops, size_t hops_size, const uint8_t *set, size_t set_size,
                          size_t position, uint32_t label, uint8_t *output, size_t room);
 
+/*
+ * The report on the calls of a capture. Residences are in pad units. Those that count are what a call put on
+ * a pad: its own where it was updated or created, and the one that had waited where it was added; the whole
+ * of it, also where the pad stays at 2^63-1. What waits counts when, and only if, it is added.
+ */
+struct rtm_report {
+    uint64_t updated;            /* how many calls were answered with each word */
+    uint64_t passed;
+    uint64_t created;
+    uint64_t waiting;
+    uint64_t added;
+    uint64_t refused[17];        /* refused[n]: how many were refused with number n; 0, 11 and 12 never are */
+    uint64_t ranged;             /* 1 where residences count; 0 where none does: least and greatest are then 0 */
+    uint64_t least;
+    uint64_t greatest;
+    uint64_t sum;                /* exact */
+};
+
+/*
+ * Runs a capture again, from an empty table, with an output of RTM_CREATED_SIZE octets for each call. `capture`
+ * of `size` octets, at most 65,536, begins with the number of its bodies in two octets, at most 256, and the
+ * offset of each from the capture's start in four, big-endian; the bodies follow back to back to its end. A
+ * body is the octet 1 (one-step) or 2 (two-step), the entry stamp and the exit stamp (PTP: seconds and
+ * nanoseconds, four octets each, big-endian) and a message of any size, perhaps none; or the octet 3 alone, a
+ * tick. Answers 0 and writes every member of `report`. Refusal: 26 for any other octets, before any call is
+ * run; it leaves `report` as it came. The capture is not changed. Ticks are not reported.
+ */
+uint8_t rtm_replay(const uint8_t *capture, size_t size, struct rtm_report *report);
+
 /* A compiler that lays these out in another way stops here. */
 typedef char rtm_size_has_8_octets[sizeof(size_t) == 8 ? 1 : -1];
 typedef char rtm_bool_has_1_octet[sizeof(bool) == 1 ? 1 : -1];
@@ -295,6 +327,7 @@ typedef char rtm_part_has_16_octets[sizeof(struct rtm_part) == 16 ? 1 : -1];
 typedef char rtm_joined_has_32_octets[sizeof(struct rtm_joined) == 32 ? 1 : -1];
 typedef char rtm_slot_has_24_octets[sizeof(struct rtm_slot) == 24 ? 1 : -1];
 typedef char rtm_table_has_512_octets[sizeof(struct rtm_table) == 512 ? 1 : -1];
+typedef char rtm_report_has_208_octets[sizeof(struct rtm_report) == 208 ? 1 : -1];
 
 #ifdef __cplusplus
 }
