@@ -17,7 +17,7 @@ pub(crate) fn after(s: &[u8], n: usize) -> &[u8] {
 
 // The first n octets, none where there are fewer. (Of `0..n`, unlike `..n`, the check knows that it
 // has n octets.)
-fn front(s: &[u8], n: usize) -> &[u8] {
+pub(crate) fn front(s: &[u8], n: usize) -> &[u8] {
     if n <= s.len() { &s[0..n] } else { &s[..0] }
 }
 

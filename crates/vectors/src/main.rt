@@ -1,6 +1,7 @@
 // Runs the cases of standard input and prints a line for each. A case is an octet, its operation;
 // two octets, the size of its body; and the body. A case of an operation that is not known prints
 // nothing.
+mod captures;
 mod format;
 mod images;
 mod joins;
@@ -40,6 +41,7 @@ fn run(operation: u8, body: &[u8]) {
         20 => requests::run_waiting(body),
         21 => labels::run_search(body),
         22 => labels::run_write(body),
+        23 => captures::run(body),
         _ => return,
     }
     print::end_line();
