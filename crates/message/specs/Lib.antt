@@ -1,3 +1,4 @@
+pub mod Numbers
 pub mod Port
 pub mod Read
 pub mod RoundTrip

@@ -1,4 +1,5 @@
--- Laws of answers: an operation that gives a value gives one, and was refused by no test on the way; and what the number of a refusal says.
+-- Laws of answers: an operation that gives a value gives one, and was refused by no test on the way; what the number of a refusal says; and
+-- what holds of every number that an operation gives.
 -- Assumes nothing.
 use Prim.Native.Nat.{ℕ}
 use mathlib.Core.Path.{_≡_, refl, ap}
@@ -36,3 +37,21 @@ then-passed (refused n) next e = e
 pub refusal-then : {A B : Type 0} (a : Answer A) (made : A → B) → refusalIn (andThen a (λ x. value (made x))) ≡ refusalIn a
 refusal-then (value x) made = refl
 refusal-then (refused n) made = refl
+
+-- the number of a refusal, if it is one, has the property P
+abbrev pub Numbered : {A : Type 0} → (ℕ → Type 0) → Answer A → Type 0
+Numbered P (value a) = Unit {0}
+Numbered P (refused n) = P n
+
+module _ (P : ℕ → Type 0) where
+  pub its-number : {A : Type 0} (a : Answer A) (n : ℕ) → Numbered P a → a ≡ refused n → P n
+  its-number (value x) n h e = absurd (let z : _≡_ {A = ℕ} 0 1 = cc in omega arith)
+  its-number (refused m) n h e = let same : m ≡ n = cc in rw (← same) h
+
+  pub numbered-by : {A : Type 0} (a : Answer A) → ((n : ℕ) → a ≡ refused n → P n) → Numbered P a
+  numbered-by (value x) h = tt
+  numbered-by (refused n) h = h n refl
+
+  pub numbered-then : {A B : Type 0} (a : Answer A) (next : A → Answer B) → Numbered P a → ((x : A) → Numbered P (next x)) → Numbered P (andThen a next)
+  numbered-then (value x) next h k = k x
+  numbered-then (refused n) next h k = h
