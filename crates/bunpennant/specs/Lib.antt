@@ -1,1 +1,2 @@
 pub mod C
+pub mod Promises

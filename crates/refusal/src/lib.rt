@@ -1,5 +1,5 @@
-// The refusal numbers (document 01, Refusal numbers), each named once, and the answer of whatever is
-// written to a lent output.
+// The refusal numbers (document 01, Refusal numbers), each named once, with the operations that give
+// it; and the answer of whatever is written to a lent output.
 
 // The size written, or the number of the refusal.
 pub enum Written {
@@ -7,7 +7,7 @@ pub enum Written {
     Refused(u8),
 }
 
-// Reading a message.
+// 1 to 8: reading a message, and with it every node call and joining. 2, 6 and 7 also writing one.
 pub const TOO_SHORT: u8 = 1;
 
 pub const TOO_LONG: u8 = 2;
@@ -24,47 +24,52 @@ pub const VALUE_SIZE: u8 = 7;
 
 pub const SUB_TLV: u8 = 8;
 
-// A residence, and a sum of two pads that is below the range.
+// 9, 10: the residence between two stamps; the node calls that take one: at a one-step node those that
+// update, at a two-step node a Sync and a Delay_Req.
 pub const INVALID_STAMP: u8 = 9;
 
 pub const TOO_LONG_RESIDENCE: u8 = 10;
 
+// 11: joining alone. It is withdrawn at nodes (document 02, W-210): no node call gives it.
 pub const SUM_OUT_OF_RANGE: u8 = 11;
 
-// An output that is lent to be written.
+// 12: writing a message, an image or label entries; a two-step node, for a Sync with S clear.
 pub const OUTPUT_TOO_SMALL: u8 = 12;
 
-// A two-step node.
+// 13, 14: adding a record to the table; a two-step node, for a Sync with S set and for a Delay_Req.
 pub const ALREADY_WAITING: u8 = 13;
 
 pub const NO_EMPTY_SLOT: u8 = 14;
 
+// 15: collecting one; a two-step node, for a Follow_Up and for a Delay_Resp.
 pub const NO_RECORD: u8 = 15;
 
+// 16: a two-step node, for a message that it cannot time.
 pub const NOT_FOR_TWO_STEP: u8 = 16;
 
-// Writing a message.
+// 17, 23: writing a message.
 pub const PTP_TYPE: u8 = 17;
 
 pub const SUB_TLV_LENGTH: u8 = 23;
 
-// Joining.
+// 18: joining.
 pub const NOT_A_PAIR: u8 = 18;
 
-// An address list.
+// 19 to 21: an address list, and the hops and RTM_SET from which the next TTL is found.
 pub const LIST_TOO_LONG: u8 = 19;
 
 pub const BAD_ENTRY: u8 = 20;
 
 pub const NO_ENTRY: u8 = 21;
 
-// An image of the table.
+// 22: writing or loading an image of the table.
 pub const IMAGE: u8 = 22;
 
-// The TTL for the next timing node, and the label entries.
+// 24: the TTL for the next timing node, and the label entries with it.
 pub const NO_TIMING_NODE: u8 = 24;
 
+// 25: the label entries.
 pub const LABEL: u8 = 25;
 
-// A capture.
+// 26: running a capture again.
 pub const CAPTURE: u8 = 26;

@@ -1,7 +1,7 @@
 -- The counts of a report: each is that of its answer in the run, together they are the calls, and some numbers are never counted.
 -- Assumes nothing.
 use Prim.Native.Nat.{ℕ, zero, suc, _+_, _<_}
-use mathlib.Core.Path.{_≡_, refl, subst, _∙_}
+use mathlib.Core.Path.{_≡_, refl, sym, ap, subst, _∙_}
 use mathlib.Core.Bool.{Bool, true, false, cond}
 use mathlib.Core.List.{List, [], _∷_, map}
 use mathlib.Core.Logic.{inl, inr}
@@ -11,46 +11,37 @@ use lib.Dec.{eqb}
 use lib.ListN.{length, getD, set, replicate, length-set}
 use lib.Seq.{getD-set-same, getD-set-other}
 use Rattle.refusal.specs.Answer.{Answer, value, refused}
+use Rattle.refusal.proofs.Answers.{Numbered, numbered-by}
 use Rattle.records.specs.Slots.{Slots, zeros}
 use Rattle.records.specs.Node.{tableAnswer, Event, tick, call, switchover, step, result, run}
 use Rattle.image.specs.Layout.{sum}
-use Rattle.rules.specs.Rules.{Mode, Call, Word, updated, passed, created, waiting, added, rules}
-use Rattle.rules.specs.Numbers.{Given}
-use Rattle.rules.proofs.Numbers.{numbers-given}
+use Rattle.rules.specs.Rules.{Mode, oneStep, twoStep, Call, Word, updated, passed, created, waiting, added, rules}
+use Rattle.rules.specs.Numbers.{GivenAt}
+use Rattle.rules.proofs.Numbers.{numbers-given, eleven-withdrawn}
 use Rattle.capture.specs.Layout.{bodyKind, bodiesIn}
 use Rattle.report.specs.declared.Counts.{Counts}
 use Rattle.report.specs.declared.Report.{Report}
 use Rattle.report.specs.Events.{lentOutput, callIn, eventIn}
 use Rattle.report.specs.Report.{counting, wordNumber, refusedMore, withAnswer, withResult, reportFrom, nothingYet, reportOf}
-use Rattle.report.specs.Promises.{countOf, sameAnswer, givenIn, CountsOfRun, total, callsIn, CountsAddUp, NeverCounted, NothingToReport}
+use Rattle.report.specs.Promises.{countOf, sameAnswer, givenIn, CountsOfRun, total, callsIn, CountsAddUp, ElevenNeverCounted, NeverCounted, NothingToReport}
 use Rattle.report.proofs.Captures.{reported}
 
--- what a call answers, and what holds of the number of each refusal
+-- what a call answers
 abbrev answerAt : Slots → Call → Answer Word
 answerAt t c = rules .reply c (tableAnswer (rules .request c) t) .answer
-
-abbrev Numbered : (ℕ → Type 0) → Answer Word → Type 0
-Numbered P (value w) = Unit {0}
-Numbered P (refused n) = P n
-
-numbered : (P : ℕ → Type 0) (t : Slots) (c : Call) → ((n : ℕ) → Given c n → P n) → Numbered P (answerAt t c)
-numbered P t c h = go (answerAt t c) (λ n e. h n (numbers-given t 0 c n e))
-  where
-    go : (a : Answer Word) → ((n : ℕ) → a ≡ refused n → P n) → Numbered P a
-    go (value w) k = tt
-    go (refused n) k = k n refl
 
 -- each number has its place among the 17
 abbrev Placed : Answer Word → Type 0
 Placed a = Numbered (λ n. n < 17) a
 
 placed : (t : Slots) (c : Call) → Placed (answerAt t c)
-placed t c = numbered (λ n. n < 17) t c go
+placed t c = numbered-by (λ n. n < 17) (answerAt t c) (λ n e. go (c .mode) n (numbers-given t 0 c n e))
   where
-    go : (n : ℕ) → Given c n → n < 17
-    go n (inl g) = omega (arith, g .1)
-    go n (inr (inl g)) = omega (arith, g .0)
-    go n (inr (inr g)) = omega (arith, g .1)
+    go : (m : Mode) (n : ℕ) → GivenAt m c n → n < 17
+    go oneStep n g = omega (arith, g .1)
+    go twoStep n (inl g) = omega (arith, g .1)
+    go twoStep n (inr (inl g)) = omega (arith, g .0)
+    go twoStep n (inr (inr g)) = omega (arith, g .1)
 
 refused-length : (ns : List ℕ) (a : Answer Word) → length (refusedMore ns a) ≡ length ns
 refused-length ns (value w) = refl
@@ -170,66 +161,87 @@ counts-add-up es =
 
 -- ---- a number that no call is refused with is counted at 0
 
-abbrev Avoids : ℕ → Answer Word → Type 0
-Avoids m a = Numbered (λ n. m ≡ n → ⊥) a
+-- what holds of each call of a list
+abbrev EachCall : (Call → Type 0) → List (Event Call) → Type 0
+EachCall P [] = Unit {0}
+EachCall P (tick ∷ es) = EachCall P es
+EachCall P (call c ∷ es) = P c × EachCall P es
+EachCall P (switchover ∷ es) = EachCall P es
 
-refused-kept : (m : ℕ) (ns : List ℕ) (a : Answer Word) → Avoids m a → getD (refusedMore ns a) m 0 ≡ getD ns m 0
+each-call : (P : Call → Type 0) → ((c : Call) → P c) → (es : List (Event Call)) → EachCall P es
+each-call P h [] = tt
+each-call P h (tick ∷ es) = each-call P h es
+each-call P h (call c ∷ es) = (h c, each-call P h es)
+each-call P h (switchover ∷ es) = each-call P h es
+
+each-more : (P Q : Call → Type 0) → ((c : Call) → P c → Q c) → (es : List (Event Call)) → EachCall P es → EachCall Q es
+each-more P Q h [] p = tt
+each-more P Q h (tick ∷ es) p = each-more P Q h es p
+each-more P Q h (call c ∷ es) p = (h c (p .0), each-more P Q h es (p .1))
+each-more P Q h (switchover ∷ es) p = each-more P Q h es p
+
+-- from no table is the call refused with m
+abbrev Without : ℕ → Call → Type 0
+Without m c = (t : Slots) → answerAt t c ≡ refused m → ⊥
+
+refused-kept : (m : ℕ) (ns : List ℕ) (a : Answer Word) → (a ≡ refused m → ⊥) → getD (refusedMore ns a) m 0 ≡ getD ns m 0
 refused-kept m ns (value w) h = refl
-refused-kept m ns (refused n) h = getD-set-other ns n m (getD ns n 0 + 1) 0 h
-
--- each call is lent 36 octets
-abbrev AllLent : List (Event Call) → Type 0
-AllLent [] = Unit {0}
-AllLent (tick ∷ es) = AllLent es
-AllLent (call c ∷ es) = (length (c .output) ≡ 36) × AllLent es
-AllLent (switchover ∷ es) = AllLent es
+refused-kept m ns (refused n) h = getD-set-other ns n m (getD ns n 0 + 1) 0 (λ e. h (ap refused (sym e)))
 
 never-from :
-    (m : ℕ)
-    → ((c : Call) → length (c .output) ≡ 36 → (n : ℕ) → Given c n → m ≡ n → ⊥)
-    → (es : List (Event Call)) (r : Report) (t : Slots)
-    → AllLent es
+    (m : ℕ) (es : List (Event Call)) (r : Report) (t : Slots)
+    → EachCall (Without m) es
     → getD (reportFrom r (run counting t es) .counts .refused) m 0 ≡ getD (r .counts .refused) m 0
-never-from m h [] r t l = refl
-never-from m h (tick ∷ es) r t l = never-from m h es r (step rules t tick) l
-never-from m h (call c ∷ es) r t l =
-    never-from m h es (withResult r (result counting t (call c))) (step rules t (call c)) (l .1)
-    ∙ refused-kept m (r .counts .refused) (answerAt t c) (numbered (λ n. m ≡ n → ⊥) t c (h c (l .0)))
-never-from m h (switchover ∷ es) r t l = never-from m h es r (step rules t switchover) l
+never-from m [] r t h = refl
+never-from m (tick ∷ es) r t h = never-from m es r (step rules t tick) h
+never-from m (call c ∷ es) r t h =
+    never-from m es (withResult r (result counting t (call c))) (step rules t (call c)) (h .1)
+    ∙ refused-kept m (r .counts .refused) (answerAt t c) (h .0 t)
+never-from m (switchover ∷ es) r t h = never-from m es r (step rules t switchover) h
 
-not-zero : (c : Call) → length (c .output) ≡ 36 → (n : ℕ) → Given c n → 0 ≡ n → ⊥
-not-zero c l n (inl g) e = omega (arith, g .0)
-not-zero c l n (inr (inl g)) e = omega (arith, g .0)
-not-zero c l n (inr (inr g)) e = omega (arith, g .0)
+without-zero : (c : Call) → Without 0 c
+without-zero c t e = go (c .mode) (numbers-given t 0 c 0 e)
+  where
+    go : (m : Mode) → GivenAt m c 0 → ⊥
+    go oneStep g = omega (arith, g .0)
+    go twoStep (inl g) = omega (arith, g .0)
+    go twoStep (inr (inl g)) = omega (arith, g .0)
+    go twoStep (inr (inr g)) = omega (arith, g .0)
 
-not-eleven : (c : Call) → length (c .output) ≡ 36 → (n : ℕ) → Given c n → 11 ≡ n → ⊥
-not-eleven c l n (inl g) e = omega (arith, g .1)
-not-eleven c l n (inr (inl g)) e = omega (arith, g .0)
-not-eleven c l n (inr (inr g)) e = omega (arith, g .0)
+without-twelve : (c : Call) → length (c .output) ≡ 36 → Without 12 c
+without-twelve c l t e = go (c .mode) (numbers-given t 0 c 12 e)
+  where
+    go : (m : Mode) → GivenAt m c 12 → ⊥
+    go oneStep g = omega (arith, g .1)
+    go twoStep (inl g) = omega (arith, g .1)
+    go twoStep (inr (inl g)) = omega (arith, g .1)
+    go twoStep (inr (inr g)) = omega (arith, g .0)
 
-not-twelve : (c : Call) → length (c .output) ≡ 36 → (n : ℕ) → Given c n → 12 ≡ n → ⊥
-not-twelve c l n (inl g) e = omega (arith, g .1)
-not-twelve c l n (inr (inl g)) e = omega (arith, g .1)
-not-twelve c l n (inr (inr g)) e = omega (arith, g .0)
+pub eleven-never-counted : ElevenNeverCounted
+eleven-never-counted es =
+    never-from 11 es nothingYet (replicate 16 zeros) (each-call (Without 11) (λ c t e. eleven-withdrawn t 0 c e) es)
 
--- the events of a capture
-all-lent : (bs : List (List ℕ)) → AllLent (map eventIn bs)
+-- the calls of a capture are lent 36 octets
+abbrev Lent : Call → Type 0
+Lent c = length (c .output) ≡ 36
+
+all-lent : (bs : List (List ℕ)) → EachCall Lent (map eventIn bs)
 unfolding eventIn lentOutput
 all-lent [] = tt
 all-lent (b ∷ bs) = go (eqb (bodyKind b) 3) _ (all-lent bs)
   where
-    go : (d : Bool) (m : Mode) → AllLent (map eventIn bs) → AllLent (cond d tick (call (callIn m b)) ∷ map eventIn bs)
+    go : (d : Bool) (m : Mode) → EachCall Lent (map eventIn bs) → EachCall Lent (cond d tick (call (callIn m b)) ∷ map eventIn bs)
     go true m l = l
     go false m l = (refl, l)
 
 abbrev Never : Report → Type 0
 Never r = (getD (r .counts .refused) 0 0 ≡ 0) × (getD (r .counts .refused) 11 0 ≡ 0) × (getD (r .counts .refused) 12 0 ≡ 0)
 
-never-lent : (es : List (Event Call)) → AllLent es → Never (reportOf es)
+never-lent : (es : List (Event Call)) → EachCall Lent es → Never (reportOf es)
 never-lent es l = (
-  never-from 0 not-zero es nothingYet (replicate 16 zeros) l,
-  never-from 11 not-eleven es nothingYet (replicate 16 zeros) l,
-  never-from 12 not-twelve es nothingYet (replicate 16 zeros) l,
+  never-from 0 es nothingYet (replicate 16 zeros) (each-call (Without 0) without-zero es),
+  eleven-never-counted es,
+  never-from 12 es nothingYet (replicate 16 zeros) (each-more Lent (Without 12) without-twelve es l),
 )
 
 pub never-counted : NeverCounted

@@ -25,7 +25,7 @@ use Rattle.report.specs.declared.Report.{Report}
 use Rattle.report.specs.Events.{lentOutput, eventIn}
 use Rattle.report.specs.Report.{nothingYet, reportOf, reportOn}
 use Rattle.report.specs.Promises.{givenIn, total, callsIn, residencesOf, Spans, OnPad}
-use Rattle.report.proofs.Counting.{counts-of-run, counts-add-up, never-counted, nothing-to-report}
+use Rattle.report.proofs.Counting.{eleven-never-counted, counts-of-run, counts-add-up, never-counted, nothing-to-report}
 use Rattle.report.proofs.Rooms.{sum-fits}
 use Rattle.report.proofs.Extremes.{least-and-greatest, least-first, sum-of-residences}
 use Rattle.report.proofs.OnPads.{residences-on-pads}
@@ -169,6 +169,11 @@ lentLess = record { mode = twoStep; message = octetsOf (numbered 258) false 0 (p
 
 lent-less : getD (reportOf (call lentLess ∷ []) .counts .refused) 12 0 ≡ 1
 lent-less = refl
+
+-- but 11 of no call
+
+lent-less-eleven : getD (reportOf (call lentLess ∷ onFullPad) .counts .refused) 11 0 ≡ 0
+lent-less-eleven = eleven-never-counted (call lentLess ∷ onFullPad)
 
 -- ---- captures
 

@@ -59,7 +59,11 @@ callsIn (switchover ∷ es) = callsIn es
 abbrev pub CountsAddUp : Type 0
 CountsAddUp = (es : List (Event Call)) → total (reportOf es .counts) ≡ callsIn es
 
--- of a capture 12 is never counted, since each call is lent 36 octets, nor 11 (document 02, W-205), nor 0, which is no number
+-- "W-209's count of it stays, at 0" (document 02, W-210): 11, of any calls
+abbrev pub ElevenNeverCounted : Type 0
+ElevenNeverCounted = (es : List (Event Call)) → getD (reportOf es .counts .refused) 11 0 ≡ 0
+
+-- of a capture neither is 12, since each call is lent 36 octets, nor 0, which is no number
 abbrev pub NeverCounted : Type 0
 NeverCounted =
     (s : List ℕ) (r : Report)

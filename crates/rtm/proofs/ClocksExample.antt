@@ -1,6 +1,6 @@
 -- Demand 3's sum and the rounding can be met by a path of clocks of both formats: 1,500 ns at a one-step node with PTP stamps, then NTP
 -- differences of 1 and 3 at two two-step nodes. The residences are more than one unit below the exact ones, and less than two.
--- And the number of records that wait, at the last of them.
+-- And the number of records that wait, at the last of them; and that no call there, with stamps of either format, is refused with 11.
 -- Assumes nothing.
 use Prim.Native.Nat.{ℕ, _+_, _*_, _<_, _≤_}
 use mathlib.Core.Path.{_≡_, refl}
@@ -11,6 +11,7 @@ use mathlib.Core.Option.{none, some}
 use native.Mathlib.Omega.{arith}
 use lib.IntN.{pos, _+ℤ_}
 use lib.ListN.{replicate}
+use Rattle.refusal.specs.Answer.{refused}
 use Rattle.stamp.specs.declared.stamps.Stamps.{Stamps}
 use Rattle.stamp.specs.declared.stamps.Stamps.the-variants.{Ptp, Ntp}
 use Rattle.stamp.specs.Rounding.{exact}
@@ -18,13 +19,13 @@ use Rattle.records.specs.Slots.{Slots, same, holds, zeros}
 use Rattle.records.specs.Node.{tick, call}
 use Rattle.records.specs.Number.{readNumber, finalNumber}
 use Rattle.rules.specs.Change.{padOf}
-use Rattle.rules.specs.Rules.{Mode, oneStep, twoStep, updated, created, waiting, added}
+use Rattle.rules.specs.Rules.{Mode, oneStep, twoStep, updated, created, waiting, added, callOf}
 use Rattle.rules.specs.Path.{Unrefused, Apart, Every, of-sync, FirstWay, SecondWay, FollowUps, born}
 use Rattle.rules.proofs.Samples.{octetsOf, spare, after, visit, unrefused, first-halves, other, apart}
 use Rattle.rules.proofs.PathExample.{mine, theirs, aSync, aFollowUp}
 use Rattle.rules.specs.Service as service
 use Rattle.rtm.specs.Stamped.{StampedCall, handed, stamped, StampedStop, asStop, firstStamps, total, units}
-use Rattle.rtm.proofs.Runs.{stamped-path-sum, stamped-number-in-service}
+use Rattle.rtm.proofs.Runs.{stamped-path-sum, stamped-number-in-service, stamped-eleven-withdrawn}
 use Rattle.rtm.proofs.RoundedPaths.{path-rounded-down}
 
 -- stamps so many nanoseconds apart, and NTP stamps from the largest to 0 s n: n + 1 units of 2^-32 second
@@ -141,3 +142,9 @@ exactly = refl
 keeps-one : (finalNumber stamped new 0 (third .events) ≡ 1) × (readNumber (finalNumber stamped new 0 (third .events)) ≡ 1)
 unfolding same holds
 keeps-one = stamped-number-in-service new 0 (third .events) service.new
+
+-- none of the calls is refused with 11, whatever the table and its number
+never-eleven :
+    (callOf new 0 (handed syncFirst) .reply .answer ≡ refused 11 → ⊥)
+    × (callOf new 255 (handed syncSecond) .reply .answer ≡ refused 11 → ⊥)
+never-eleven = (stamped-eleven-withdrawn new 0 syncFirst, stamped-eleven-withdrawn new 255 syncSecond)

@@ -23,8 +23,9 @@ use Rattle.rules.specs.Rules.{Reply, rules}
 use Rattle.rules.specs.Path.{unitsOf, unitsIn, residences}
 use Rattle.rules.proofs.Laws.{lawful}
 use Rattle.rules.proofs.Serves.{keeps-slots, number-serves, orders-serve}
+use Rattle.rules.proofs.Numbers.{eleven-withdrawn}
 use Rattle.rules.proofs.PathSums.{path-sum, delay-path-sum}
-use Rattle.rtm.specs.Stamped.{residenceBy, stampedResidence, StampedCall, handed, handedEvent, stamped, SameRun, StampedOrderDoesNotMatter, StampedNumberInService, StampedNumberOrderFree}
+use Rattle.rtm.specs.Stamped.{residenceBy, stampedResidence, StampedCall, handed, handedEvent, stamped, SameRun, StampedOrderDoesNotMatter, StampedNumberInService, StampedNumberOrderFree, StampedElevenWithdrawn}
 use Rattle.rtm.specs.Stamped.{StampedStop, asStop, stampsIn, firstStamps, total, units, StampedPathSum, StampedDelayPathSum}
 
 -- a residence is the one of its answer
@@ -83,6 +84,9 @@ stamped-number-in-service = number-serves stamped keeps-slots
 
 pub stamped-number-order-free : StampedNumberOrderFree
 stamped-number-order-free = orders-serve stamped keeps-slots stamped-lawful
+
+pub stamped-eleven-withdrawn : StampedElevenWithdrawn
+stamped-eleven-withdrawn t n c = eleven-withdrawn t n (handed c)
 
 -- the residences of a path are those of the first message's stamps
 total-append : (f : Stamps → ℕ) (ss rs : List Stamps) → total f (ss ++ rs) ≡ total f ss + total f rs

@@ -20,7 +20,7 @@ use Rattle.records.specs.Node.{Node, Event, tick, call, switchover, run, final}
 use Rattle.records.specs.Order.{OrderFree}
 use Rattle.records.specs.Number.{finalNumber}
 use Rattle.rules.specs.Change.{padOf}
-use Rattle.rules.specs.Rules.{Mode, Call, Reply, Word, sync, delayReq, delayResp, kindOf, rules}
+use Rattle.rules.specs.Rules.{Mode, Call, Reply, Word, sync, delayReq, delayResp, kindOf, rules, callOf}
 use Rattle.rules.specs.Path.{Stop, Unrefused, Apart, Every, FirstWay, SecondWay, FollowUps, unitsOf}
 use Rattle.rules.specs.Service.{NumberInService, NumberOrderFree}
 
@@ -84,6 +84,10 @@ StampedNumberInService = NumberInService stamped
 
 abbrev pub StampedNumberOrderFree : Type 0
 StampedNumberOrderFree = NumberOrderFree stamped
+
+-- no call with stamps, of either format, is refused with 11 (document 02, W-210)
+abbrev pub StampedElevenWithdrawn : Type 0
+StampedElevenWithdrawn = (t : Slots) (n : ℕ) (c : StampedCall) → callOf t n (handed c) .reply .answer ≡ refused 11 → ⊥
 
 -- A node of a path whose calls have stamps, as a node of the path theorem: by `SameRun` the results at its places are its own.
 pub record StampedStop : Type 0 where

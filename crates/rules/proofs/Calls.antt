@@ -22,24 +22,21 @@ use Rattle.records.specs.declared.RecordKind.the-variants.{Sync, Delay}
 use Rattle.records.specs.declared.Identity.{Identity}
 use Rattle.records.specs.Node.{collect}
 use Rattle.scratch_pad.specs.Sum.{raised}
-use Rattle.scratch_pad.proofs.Whole.{inRange}
-use Rattle.scratch_pad.proofs.Held.{raised-none, raised-range, read-range}
+use Rattle.scratch_pad.proofs.Held.{raised-none, read-range}
 use Rattle.rules.specs.Change.{padOf, withTwoStep, followUpOf}
 use Rattle.rules.specs.Rules.{Kind, sync, followUp, delayReq, firstOf, secondOf, kindOf, kindIdentity, Mode, oneStep, twoStep, Call, Word, updated, passed, created, waiting, added, Reply, asItCame, addToPad, update, oneStepReply, createIn, create, keep, gather, twoStepReply, replyBy, keepRequest, twoStepRequest, requestBy, rules}
 use Rattle.rules.specs.Path.{First, of-sync, of-delay, unitsOf}
 use Rattle.rules.proofs.Bearing.{Bears, sync-kind, follow-up-kind, sound-ptp, is-sync}
-use Rattle.rules.proofs.Changes.{with-pad-pad, with-pad-kind, with-two-step-bears, with-two-step-pad, follow-up-length, follow-up-pad, follow-up-bears}
+use Rattle.rules.proofs.Changes.{with-pad-kind, with-two-step-bears, with-two-step-pad, follow-up-length, follow-up-pad, follow-up-bears}
+use Rattle.rules.proofs.Sums.{sum-in-range, sums-are-pads}
 
 -- a pad that was added to, of a message that stays of its kind
 module _ (c : Call) (w : Word) (u : ℕ) (m : SoundPtp (c .message)) where
-  fits : inRange (raised (padOf (c .message)) u) ≡ true
-  fits = raised-range (padOf (c .message)) u (read-range (number 8 (c .message) 4))
-
   pub added-pad : padOf (addToPad c w u .message) ≡ raised (padOf (c .message)) u
-  added-pad = with-pad-pad (c .message) m (raised (padOf (c .message)) u) fits
+  added-pad = sums-are-pads c w u (omega (arith, m .long)) .1
 
   pub added-kind : kindOf (addToPad c w u .message) ≡ kindOf (c .message)
-  added-kind = with-pad-kind (c .message) m (raised (padOf (c .message)) u) fits
+  added-kind = let s = c .message in with-pad-kind s (raised (padOf s) u) (sum-in-range s u) m
 
 -- and one that was not
 pub same-pad : (s : List ℕ) → padOf s ≡ raised (padOf s) 0

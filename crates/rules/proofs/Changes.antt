@@ -65,16 +65,16 @@ kept s vs n low type size is h =
     }
 
 -- another pad
-module _ (s : List ℕ) (h : SoundPtp s) (z : ℤ) (f : inRange z ≡ true) where
+module _ (s : List ℕ) (z : ℤ) (f : inRange z ≡ true) where
   fits : SFits w64 z
   fits = record { sfits = ltb-true _ _ f }
 
-  pub with-pad-pad : padOf (withPad s z) ≡ z
-  with-pad-pad = ap (toZ w64) (number-there s 4 8 (ofZ w64 z) (omega (arith, h .long)) (ofZ-fits w64 z fits .fits)) ∙ toZ-ofZ w64 z fits
+  pub with-pad-pad : 12 ≤ length s → padOf (withPad s z) ≡ z
+  with-pad-pad l = ap (toZ w64) (number-there s 4 8 (ofZ w64 z) (omega arith) (ofZ-fits w64 z fits .fits)) ∙ toZ-ofZ w64 z fits
 
   -- the message is of the same kind
-  pub with-pad-kind : kindOf (withPad s z) ≡ kindOf s
-  with-pad-kind =
+  pub with-pad-kind : SoundPtp s → kindOf (withPad s z) ≡ kindOf s
+  with-pad-kind h =
       let vs = signedOctets z in
       let type = number-behind s vs 4 2 12 (omega arith) in
       let size = number-behind s vs 4 2 14 (omega arith) in

@@ -1,11 +1,12 @@
 pub mod PtpTypes
 pub mod Bearing
 pub mod Changes
+pub mod Sums
+pub mod Numbers
 pub mod Calls
 pub mod Laws
 pub mod Serves
 pub mod Below
-pub mod Numbers
 pub mod Crossing
 pub mod Pads
 pub mod PathSums
@@ -17,4 +18,5 @@ pub mod DelayExample
 pub mod LargestExample
 pub mod ServiceExample
 pub mod NumbersExample
+pub mod ElevenExample
 pub mod NumberExample

@@ -1,5 +1,5 @@
--- The numbers that a node call gives, worked: one of each range, and 12 where the output is too small; and a residence that waits is below
--- the limit.
+-- The numbers that a node call gives, worked: one of each range and mode, and 12 where the output is too small; and a residence that waits
+-- is below the limit.
 -- Assumes nothing.
 use Prim.Native.Nat.{_<_}
 use mathlib.Core.Path.{refl}
@@ -7,13 +7,13 @@ use mathlib.Core.Bool.{true, false}
 use mathlib.Core.List.{List, [], _∷_}
 use lib.IntN.{pos}
 use lib.ListN.{replicate}
-use Rattle.residence.specs.declared.Residence.the-variants.{InvalidStamp, Units}
+use Rattle.residence.specs.declared.Residence.the-variants.{InvalidStamp, TooLong, Units}
 use Rattle.records.specs.declared.RecordKind.the-variants.{Sync}
 use Rattle.records.specs.declared.Record.{Record}
 use Rattle.records.specs.Slots.{same, holds, zeros}
 use Rattle.records.specs.Node.{Event, tick, call}
 use Rattle.image.specs.Image.{sound, ofSync, differ}
-use Rattle.rules.specs.Rules.{twoStep, Call}
+use Rattle.rules.specs.Rules.{oneStep, twoStep, Call}
 use Rattle.rules.specs.Numbers.{Given}
 use Rattle.rules.specs.Service.{new}
 use Rattle.rules.proofs.Numbers.{numbers-given}
@@ -27,7 +27,14 @@ badStamp = handedIn twoStep (octetsOf (numbered 258) false 0 (pos 0)) InvalidSta
 nine : Given badStamp 9
 nine = numbers-given (replicate 16 zeros) 0 badStamp 9 refl
 
--- one that is lent 35 octets: 12
+-- a one-step call whose residence is too long: 10
+abbrev overLong : Call
+overLong = handedIn oneStep (octetsOf (numbered 258) false 0 (pos 0)) TooLong
+
+ten : Given overLong 10
+ten = numbers-given (replicate 16 zeros) 0 overLong 10 refl
+
+-- a Sync with S clear that is lent 35 octets: 12
 abbrev lentLess : Call
 lentLess = record { mode = twoStep; message = octetsOf (numbered 258) false 0 (pos 0); residence = stayed 1; output = replicate 35 0 }
 

@@ -1,5 +1,5 @@
 -- Sums held at the largest pad: a number of the range stays, residences may be added one by one or all at once, the sum is in the range,
--- and below the largest pad it is the plain one.
+-- never below it, and below the largest pad it is the plain one.
 -- Assumes nothing.
 use Prim.Native.Nat.{ℕ, suc, _+_, _-_, _<_, _≤_, _^_}
 use mathlib.Core.Path.{_≡_, refl, sym, ap, _∙_}
@@ -66,8 +66,19 @@ sum-below : (z w : ℤ) (u : ℕ) → above w + (below z + 0) ≡ below w + (abo
 sum-below z (pos n) u p = omega arith
 sum-below z (negsuc n) u p = omega arith
 
+-- a number of the range and a residence are not below it
+plain-range : (z : ℤ) (u : ℕ) → inRange z ≡ true → below (z +ℤ pos u) ≤ 2 ^ 63
+plain-range z u h = omega (arith, range-below z h, sum-below z (z +ℤ pos u) u (parts z (pos u)))
+
 pub raised-range : (z : ℤ) (u : ℕ) → inRange z ≡ true → inRange (raised z u) ≡ true
-raised-range z u h = held-range (z +ℤ pos u) (omega (arith, range-below z h, sum-below z (z +ℤ pos u) u (parts z (pos u))))
+raised-range z u h = held-range (z +ℤ pos u) (plain-range z u h)
+
+pub never-low : (z : ℤ) (u : ℕ) → inRange z ≡ true → tooLow (z +ℤ pos u) ≡ false
+never-low z u h = go (z +ℤ pos u) (plain-range z u h)
+  where
+    go : (w : ℤ) → below w ≤ 2 ^ 63 → tooLow w ≡ false
+    go (pos n) l = refl
+    go (negsuc n) l = lt-leb (2 ^ 63) n (omega arith)
 
 -- a number read from 64 bits is in the range
 pub read-range : (n : ℕ) → inRange (toZ w64 n) ≡ true

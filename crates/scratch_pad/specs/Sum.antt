@@ -23,7 +23,7 @@ abbrev pub held : ℤ → ℤ
 held z = cond (tooBig z) largest z
 
 -- A pad and a residence. "a pad of 2^63-1 stays so under any addition", since no residence is below 0; for the same reason no such sum is
--- below -2^63, and there is nothing to refuse. The residence is an ordinary number: 2^63-1 of it onto -5 is 2^63-6.
+-- below -2^63 (W-210), and there is nothing to refuse. The residence is an ordinary number: 2^63-1 of it onto -5 is 2^63-6.
 abbrev pub raised : ℤ → ℕ → ℤ
 raised z u = held (z +ℤ pos u)
 
@@ -33,7 +33,7 @@ tooLow (pos n) = false
 tooLow (negsuc n) = leb (2 ^ 63) n
 
 -- Two pads: either of them at 2^63-1 "stays so under any addition, joining included", whatever the other; "11 stays only for a sum below
--- -2^63"
+-- -2^63", and so for "two pads below 0" (W-210)
 abbrev pub padSum : ℤ → ℤ → Answer ℤ
 padSum z y = cond (tooBig z || tooBig y) (value largest) (refuse 11 (tooLow (z +ℤ y)) (value (held (z +ℤ y))))
 
