@@ -1,4 +1,4 @@
--- What adding, finding and collecting answer, in document 01's numbers.
+-- What adding and collecting answer, in document 01's numbers.
 use Prim.Native.Nat.{ℕ}
 use Rattle.refusal.specs.Answer.{Answer, value, refused}
 use Rattle.lent.specs.declared.Entry.{Entry}

@@ -11,7 +11,6 @@ pub use contents::slots;
 pub use operations::add;
 pub use operations::clear;
 pub use operations::collect;
-pub use operations::find;
 pub use operations::number;
 pub use operations::tick;
 pub use operations::waiting;

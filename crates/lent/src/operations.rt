@@ -14,7 +14,6 @@ ghost use lib.ListN.{length, getD};
 ghost use Rattle.refusal.specs.Answer.{value};
 ghost use Rattle.records.specs.declared.Identity.{Identity};
 ghost use Rattle.records.specs.Slots.{holds as holds·spec, empty, lowest};
-ghost use Rattle.records.specs.Node.{tableAnswer};
 ghost use Rattle.records.specs.Node.{add as add·request, collect as collect·request};
 ghost use Rattle.records.specs.Number.{readNumber};
 ghost use Rattle.words.specs.Words.{slotsOf, numberOf, keyOf, putSlot, putRecord, withNumber, ageSlot};
@@ -134,17 +133,6 @@ pub fn waiting(words: &[u64; 64]) -> u8
     ensures { λ r. ⌜ r ≡ readNumber (numberOf (now (words .entry))) ⌝ }
 {
     number::read(number(words))
-}
-
-// The residence of the record with this identity; refusal 15 where there is none.
-pub fn find(words: &[u64; 64], identity: Identity) -> Found
-    ensures { λ r. ⌜ foundAnswer r ≡ tableAnswer (collect·request identity) (slotsOf (now (words .entry))) ⌝ }
-{
-    let at = place(words, packed::key_of(identity), identity.clock);
-    if layout::SLOTS <= at {
-        return Found::Refused(refusal::NO_RECORD);
-    }
-    Found::Residence(residence_at(words, at))
 }
 
 // Puts a record with a wait of 3 into the lowest empty slot; refusal 13 where one with its identity

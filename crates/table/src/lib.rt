@@ -11,7 +11,6 @@ pub use lent::add;
 pub use lent::clear;
 pub use lent::collect;
 pub use lent::fill;
-pub use lent::find;
 pub use lent::number;
 pub use lent::slots;
 pub use lent::tick;
@@ -22,14 +21,12 @@ pub use refusal::Written;
 pub use switchover::Loading;
 ghost use mathlib.Core.Path.{_≡_};
 ghost use lib.ListN.{replicate};
-ghost use Rattle.records.specs.Node.{tableAnswer};
 ghost use Rattle.records.specs.Node.{add as add·request, collect as collect·request};
 ghost use Rattle.records.specs.Number.{readNumber};
 ghost use Rattle.refusal.specs.Written.{written};
 ghost use Rattle.image.specs.Image.{writeOf};
 ghost use Rattle.words.specs.Words.{slotsOf, numberOf};
 ghost use Rattle.words.specs.Answers.{newOn, requestOn, tickOn, filledOn};
-ghost use Rattle.lent.specs.Answers.{foundAnswer};
 ghost use Rattle.table.specs.Table.{made, entered, taken, counted, loadOn, reloaded};
 
 // The words are slots, a number and room for later fields (specs/Words.antt of `words`). In a new or
@@ -100,13 +97,6 @@ impl Table {
         ensures { λ r. ⌜ r ≡ readNumber (numberOf (self .words)) ⌝ }
     {
         lent::waiting(&self.words)
-    }
-
-    // The residence of the record with this identity; refusal 15 where there is none.
-    pub fn find(self, identity: Identity) -> Found
-        ensures { λ r. ⌜ foundAnswer r ≡ tableAnswer (collect·request identity) (slotsOf (self .words)) ⌝ }
-    {
-        lent::find(&self.words, identity)
     }
 
     // Puts a record with a wait of 3 into the lowest empty slot; refusal 13 where one with its

@@ -9,7 +9,6 @@ use message::types;
 use records::Record;
 use records::RecordKind;
 use residence::Residence;
-use table::Found;
 use table::Table;
 
 // A Sync's record. Port and sequence are alike.
@@ -114,29 +113,6 @@ fn none() {
     print::end_line();
 }
 
-// Looks for the Sync's record of an identity.
-fn find(table: Table, identity: u16) {
-    let slot = record(identity, 0, 0);
-    print::text(b", ");
-    match table.find(slot.identity()) {
-        Found::Residence(units) => print::number(b"found ", units),
-        Found::Refused(n) => print::refused(n),
-    }
-    ;
-}
-
-// A record that is looked for stays, until its Follow_Up takes it out.
-fn looked_for() {
-    print::text(b"looked for");
-    let a = sync(Table::new(), 1);
-    find(a, 1);
-    find(a, 1);
-    find(a, 2);
-    let b = follow_up(a, types::PTP_IPV4, 1);
-    find(b, 1);
-    print::end_line();
-}
-
 // Two ticks are in time, three are not. Type is no part of the identity.
 fn ageing() {
     print::text(b"two ticks");
@@ -163,7 +139,6 @@ fn without_residence(ptp_type: u8, residence: Residence) {
 pub(crate) fn run() {
     full();
     none();
-    looked_for();
     ageing();
     without_residence(types::SYNC, Residence::InvalidStamp);
     without_residence(types::SYNC, Residence::TooLong);
