@@ -70,6 +70,32 @@ static void messages(void) {
     rtm_new(&table);
 }
 
+/* A Sync whose record is in this slot, and others of its port identity below it: before each Follow_Up the record
+   is put back. */
+static int place;
+static struct rtm_slot kept;
+
+static void lay_record(int slot) {
+    int i;
+    messages();
+    for (i = 0; i < slot; i++) {
+        sync[MESSAGE - 1] = (uint8_t)(100 + i);
+        rtm_two_step(&table, sync, MESSAGE, output, sizeof output, RTM_PTP, stamps[0].entry, stamps[0].entry);
+    }
+    lay_message(sync, 0x80, 0);
+    rtm_two_step(&table, sync, MESSAGE, output, sizeof output, RTM_PTP, stamps[0].entry, stamps[0].entry);
+    place = slot;
+    kept = table.slot[slot];
+}
+
+static void first_slot(void) {
+    lay_record(0);
+}
+
+static void last_slot(void) {
+    lay_record(15);
+}
+
 /* Loops for the library before and now. They answer how many calls answered otherwise. */
 
 #define STAMPS RTM_PTP, stamps[calls % PAIRS].entry, stamps[calls % PAIRS].exit
@@ -92,10 +118,15 @@ static void messages(void) {
     (library##_two_step(&table, sync, MESSAGE, output, sizeof output, STAMPS) != RTM_WAITING) \
     + (library##_two_step(&table, follow_up, MESSAGE, output, sizeof output, STAMPS) != RTM_ADDED)
 
+#define FOLLOW_UP(library) \
+    (table.slot[place] = kept, table.number++, \
+     library##_two_step(&table, follow_up, MESSAGE, output, sizeof output, STAMPS) != RTM_ADDED)
+
 LOOP(residence, RESIDENCE)
 LOOP(refused, REFUSED)
 LOOP(one_step, ONE_STEP)
 LOOP(pair, PAIR)
+LOOP(follow_up, FOLLOW_UP)
 
 static const struct timed rows[] = {
     {"residence, no borrow", no_borrow, before_residence, now_residence},
@@ -104,6 +135,8 @@ static const struct timed rows[] = {
     {"residence, refused with 10", gone_back, before_refused, now_refused},
     {"one-step", messages, before_one_step, now_one_step},
     {"Sync and Follow_Up", messages, before_pair, now_pair},
+    {"Follow_Up, record in the first slot", first_slot, before_follow_up, now_follow_up},
+    {"Follow_Up, record in the last slot", last_slot, before_follow_up, now_follow_up},
 };
 
 int main(int argc, char **argv) {

@@ -78,7 +78,7 @@ static uint8_t own_new(struct lent *to, struct plain_table *table, const struct 
     return 0;
 }
 
-/* The operations, how often each is taken, and the answers that must come. */
+/* The operations, how often each is taken, and the answers that must come, and no others: 11 from joining alone. */
 
 #define READING "1 2 3 4 5 6 7 8"
 #define COUNTS "0 1 2 3 4 5 6 7 8 9 10 11 12 13 14 15 16"
@@ -325,10 +325,13 @@ static unsigned some_operation(void) {
     return i;
 }
 
+static uint64_t others;                      /* how many answers came that no list has */
+
 /* Prints how often each of the answers came that must come. Answers how many did not. */
 static int print_answers(const char *name, const char *answers, const uint64_t *came) {
     static const char *const words[] = {"updated", "passed", "created", "waiting", "added"};
-    int missing = 0;
+    int i, missing = 0;
+    for (i = 0; i < 256; i++) others += came[i];
     printf("%-14s", name);
     while (*answers != 0) {
         char *end;
@@ -337,6 +340,7 @@ static int print_answers(const char *name, const char *answers, const uint64_t *
         else printf(" %lu", answer);
         printf(":%" PRIu64, came[answer]);
         if (came[answer] == 0) missing++;
+        others -= came[answer];
         answers = end;
     }
     printf("\n");
@@ -375,6 +379,10 @@ int main(int argc, char **argv) {
     }
     missing = print_seen();
     printf("library and plain C agree on %" PRIu64 " inputs of seed %" PRIu64 "\n", inputs, seed);
+    if (others > 0) {
+        printf("%" PRIu64 " answers are in no list\n", others);
+        return 1;
+    }
     if (missing == 0 || inputs < 100000) return 0;
     printf("%d answers, counts or distances did not come\n", missing);
     return 1;

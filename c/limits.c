@@ -248,6 +248,44 @@ static void put(uint8_t *at, size_t count, size_t number) {
     }
 }
 
+/* A message with this pad, S set. */
+static uint8_t *with_pad(uint8_t *message, uint8_t ptp_type, int64_t pad) {
+    message_of(message, 0x80, ptp_type);
+    put(message + 4, 8, (size_t)pad);
+    return message;
+}
+
+static bool has_pad(const uint8_t *message, int64_t pad) {
+    struct rtm_fields fields;
+    return rtm_read(message, 36, &fields) == 0 && fields.pad == pad;
+}
+
+/* A Follow_Up with this pad, for which the longest residence that a table can hold waits. */
+static uint8_t follow_up(uint8_t *message, int64_t pad) {
+    uint8_t sync[36];
+    struct rtm_table table;
+    rtm_new(&table);
+    rtm_two_step(&table, message_of(sync, 0x80, 0), 36, NULL, 0, RTM_PTP, entry, leave);
+    table.slot[0].residence = UINT64_MAX;
+    return rtm_two_step(&table, with_pad(message, 8, pad), 36, NULL, 0, RTM_PTP, entry, leave);
+}
+
+/* The ends of the pad's range: 11 is joining's alone. */
+static void ends_of_pads(void) {
+    uint8_t message[36], other[36];
+    struct rtm_joined joined;
+    LAY(joined);
+    CHECK(rtm_one_step(with_pad(message, 0, INT64_MIN), 36, RTM_PTP, entry, entry) == RTM_UPDATED);
+    CHECK(has_pad(message, INT64_MIN));
+    CHECK(rtm_one_step(with_pad(message, 0, INT64_MAX), 36, RTM_PTP, entry, leave) == RTM_UPDATED);
+    CHECK(has_pad(message, INT64_MAX));
+    CHECK(follow_up(message, INT64_MIN) == RTM_ADDED && has_pad(message, INT64_MAX));
+    CHECK(follow_up(message, INT64_MAX) == RTM_ADDED && has_pad(message, INT64_MAX));
+    with_pad(message, 0, INT64_MIN);
+    CHECK(rtm_join(message, 36, with_pad(other, 8, -1), 36, &joined) == RTM_SUM_OUT_OF_RANGE && STAYED(joined));
+    CHECK(rtm_join(message, 36, with_pad(other, 8, 0), 36, &joined) == 0 && joined.total == INT64_MIN);
+}
+
 static bool all_zeros(const struct rtm_report *report) {
     struct rtm_report zeros;
     memset(&zeros, 0, sizeof zeros);
@@ -349,6 +387,7 @@ int main(void) {
     refused_paths();
     beyond();
     labels();
+    ends_of_pads();
     ends_of_captures();
     captured();
     printf("limits: %d checked\n", checked);

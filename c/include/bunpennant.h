@@ -64,7 +64,7 @@ enum {
     RTM_SUB_TLV = 8,             /* sub-TLV type not 1, or the length that it states neither 20 nor 16 */
     RTM_INVALID_STAMP = 9,       /* nanoseconds of a PTP stamp over 999,999,999 */
     RTM_TOO_LONG_RESIDENCE = 10, /* residence over 3,999,999,999 ns; NTP: 4 seconds or more */
-    RTM_SUM_OUT_OF_RANGE = 11,   /* joining: the sum of the two pads is below -2^63 */
+    RTM_SUM_OUT_OF_RANGE = 11,   /* joining: the sum of the two pads is below -2^63; never at a node */
     RTM_OUTPUT_TOO_SMALL = 12,   /* what is to be written does not fit the output */
     RTM_ALREADY_WAITING = 13,    /* a record of this kind, port identity and sequence waits */
     RTM_NO_EMPTY_SLOT = 14,      /* all 16 slots of the table hold records */
