@@ -11,20 +11,29 @@ use borrow.Author.Tests.{leb-true, le-leb, lt-ltb, ltb-true, eqb-true, eq-eqb}
 use lib.Dec.{leb, eqb, eqb·suc-zero}
 use lib.ListN.{length, set, replicate, length-append, length-replicate, length-map, length-set}
 use Rattle.refusal.specs.Answer.{Answer, value, refused}
-use Rattle.refusal.proofs.Answers.{passes}
 use Rattle.residence.specs.Residence.{limit}
+use Rattle.records.specs.declared.RecordKind.{RecordKind}
+use Rattle.records.specs.declared.RecordKind.the-variants.{Sync, Delay}
 use Rattle.records.specs.declared.Identity.{Identity}
 use Rattle.records.specs.declared.Record.{Record}
-use Rattle.records.specs.Slots.{Slots, identityOf, empty, recordsOf, holds, zeros, lowest, find, fresh, vacant, addAnswer, addTo, removeFrom, agedBy, aged, ticked}
+use Rattle.records.specs.Slots.{Slots, kindNumber, identityOf, empty, recordsOf, holds, zeros, lowest, find, fresh, vacant, addAnswer, addTo, removeFrom, agedBy, aged, ticked}
 use Rattle.records.specs.Node.{Request, nothing, add, collect, tableAnswer, addLeaves, collectLeaves, tableAfter}
 use Rattle.records.proofs.Holding.{decide, holds-empty, holds-self, holds-other, withWait}
 use Rattle.records.proofs.Numbers.{records-few, records-same}
 use Rattle.records.proofs.View.{view, viewAged, no-view, view-remove-own, view-remove-other, view-ticked, view-add-own, view-add-other}
-use Rattle.image.specs.Layout.{fit, isLaidOut}
-use Rattle.image.specs.Image.{form, fieldsOf, rightWait, rightResidence, sound, ofSync, every, differ, distinct, loadable, filled, recordsAt, loadOf, switched}
-use Rattle.image.proofs.Returns.{loadable-parts, load-sound, switched-loaded, switched-refused, switched-keeps}
+use Rattle.image.specs.declared.Form.the-variants.{New}
+use Rattle.image.specs.Layout.{widths, fit}
+use Rattle.image.specs.Image.{bodyOf, rightWait, rightResidence, sound, every, differ, distinct, loadable, filled, formIn, loadOf, switched}
+use Rattle.image.proofs.Loadable.{loadable-parts}
+use Rattle.image.proofs.Images.{load-as-sound}
+use Rattle.image.proofs.Returns.{switched-loaded, switched-refused, switched-keeps}
 
 -- ---- sound records
+
+-- a kind's number is an octet
+pub kind-octet : (k : RecordKind) → kindNumber k < 256 ^ 1
+kind-octet Sync = omega arith
+kind-octet Delay = omega arith
 
 -- a record is sound by its numbers
 pub sound-made :
@@ -42,6 +51,7 @@ sound-made r a b u c p q =
       le-leb 1 (r .wait) a,
       le-leb (r .wait) 3 b,
       lt-ltb (r .residence) limit u,
+      lt-ltb (kindNumber (r .kind)) (256 ^ 1) (kind-octet (r .kind)),
       lt-ltb (r .clock) (256 ^ 8) c,
       lt-ltb (r .port) (256 ^ 2) p,
       lt-ltb (r .sequence) (256 ^ 2) q,
@@ -52,14 +62,14 @@ sound-made r a b u c p q =
 right : (r : Record) → sound r ≡ true → rightResidence r ≡ true
 unfolding sound
 right r e =
-    let f = fit (form .widths) (fieldsOf r) in
+    let f = fit (widths New) (bodyOf New r) in
     and-eq-true-iff (rightResidence r) f .0 (and-eq-true-iff (rightWait r) (rightResidence r && f) .0 e .1) .0
 
 -- and stays so with a lower wait
 sound-lowered : (r : Record) (v w : ℕ) → 1 ≤ w → w ≤ v → sound (withWait r v) ≡ true → sound (withWait r w) ≡ true
 unfolding sound
 sound-lowered r v w a l e =
-    let others = rightResidence r && fit (form .widths) (fieldsOf (withWait r v)) in
+    let others = rightResidence r && fit (widths New) (bodyOf New (withWait r v)) in
     let waits = and-eq-true-iff (leb 1 v && leb v 3) others .0 e .0 in
     let most : v ≤ 3 = leb-true v 3 (and-eq-true-iff (leb 1 v) (leb v 3) .0 waits .1) in
     rw (le-leb 1 w a, le-leb w 3 (omega arith), lt-ltb w (256 ^ 1) (omega arith))
@@ -179,10 +189,10 @@ pub record Serving (t : Slots) : Type 0 where
   pub sounds : every soundIn t ≡ true
   pub single : Single t
 
-pub serving-loadable : (t : Slots) → Serving t → every ofSync (recordsOf t) ≡ true → loadable (recordsOf t) ≡ true
-serving-loadable t v h =
+pub serving-loadable : (t : Slots) → Serving t → loadable (recordsOf t) ≡ true
+serving-loadable t v =
     let few = le-leb (length (recordsOf t)) 16 (omega (arith, records-same t, records-few t, v .slots)) in
-    rw (few, records-every sound t, v .sounds, h, single-distinct t (v .single))
+    rw (few, records-every sound t, v .sounds, single-distinct t (v .single))
 
 -- no residence in it reaches the limit
 pub sound-right : (t : Slots) → Serving t → every rightResidence (recordsOf t) ≡ true
@@ -197,7 +207,7 @@ sound-right t v = go (recordsOf t) (records-every sound t ∙ v .sounds)
 pub loadable-serving : (t : Slots) → length t ≡ 16 → loadable (recordsOf t) ≡ true → Serving t
 loadable-serving t l h =
     let k = loadable-parts (recordsOf t) h in
-    record { slots = l; sounds = sym (records-every sound t) ∙ k .1; single = distinct-single t (k .3) }
+    record { slots = l; sounds = sym (records-every sound t) ∙ k .1; single = distinct-single t (k .2) }
 
 -- records that can be loaded, filled up with empty slots; a new table and a loaded one are such
 filled-length : (rs : Slots) → loadable rs ≡ true → length (filled rs) ≡ 16
@@ -212,10 +222,8 @@ new-serving = filled-serving (replicate 16 zeros) [] refl refl refl
 
 pub loaded-serving : (s : List ℕ) (t : Slots) → loadOf s ≡ value t → Serving t
 loaded-serving s t e =
-    let rs = recordsAt s in
-    let k = load-sound s t e in
-    let is : t ≡ filled rs = cc (passes 22 (not (isLaidOut form s && loadable rs)) (value (filled rs)) t e .1) in
-    filled-serving t rs is (k .2) (k .1)
+    let k = load-as-sound (formIn s) s t e in
+    filled-serving t (k .0) (k .4) (k .3) (k .2)
 
 -- ---- what happens to it
 

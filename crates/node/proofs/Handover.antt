@@ -6,10 +6,9 @@ use mathlib.Core.Bool.{Bool, true, false, cond}
 use mathlib.Core.List.{List, [], _∷_, _++_}
 use native.Mathlib.Omega.{arith}
 use lib.ListN.{length, getD, replicate}
-use Rattle.refusal.specs.Answer.{Answer, value, andThen}
 use Rattle.records.specs.Slots.{Slots, empty, zeros, recordsOf}
-use Rattle.image.specs.Image.{loadable, filled, loadOf, handedOver}
-use Rattle.image.proofs.Returns.{image-taken, image-refused, loads-back, switched-loaded}
+use Rattle.image.specs.Image.{loadable, filled, handedOver}
+use Rattle.image.proofs.Returns.{handed-over, handed-refused, switched-loaded}
 use Rattle.image.proofs.Serving.{switched-slots}
 use Rattle.words.specs.Words.{decoded, slotAt, slotsFrom, slotsOf}
 use Rattle.words.specs.Meaning.{RecordFits, LoadFits}
@@ -64,11 +63,10 @@ brings t l f = go (loadable (recordsOf t)) refl
     go : (b : Bool) → loadable (recordsOf t) ≡ b → LoadFits (handedOver t)
     go true h =
         let rs = recordsOf t in
-        let e : handedOver t ≡ value (filled rs) = ap (λ (a : Answer (List ℕ)). andThen a loadOf) (image-taken t h) ∙ loads-back rs h in
         let n : length (filled rs) ≡ 16 = sym (ap length (switched-loaded t h)) ∙ switched-slots t l in
         let r : AllFit (filled rs) = joined-fit rs (replicate (16 - length rs) zeros) (records-fit t f) (empty-fit (16 - length rs)) in
-        subst LoadFits (sym e) (n, λ k g. each-fits (filled rs) r k)
-    go false h = subst LoadFits (sym (ap (λ (a : Answer (List ℕ)). andThen a loadOf) (image-refused t h))) tt
+        subst LoadFits (sym (handed-over t h)) (n, λ k g. each-fits (filled rs) r k)
+    go false h = subst LoadFits (sym (handed-refused t h)) tt
 
 pub handover-fits : (w : List ℕ) → LoadFits (handedOver (slotsOf w))
 handover-fits w = brings (slotsOf w) (sixteen w) (slots-fit w)

@@ -33,7 +33,8 @@ pub const TOO_LONG_RESIDENCE: u8 = 10;
 // 11: joining alone. It is withdrawn at nodes (document 02, W-210): no node call gives it.
 pub const SUM_OUT_OF_RANGE: u8 = 11;
 
-// 12: writing a message, an image or label entries; a two-step node, for a Sync with S clear.
+// 12: writing a message, an image or label entries; converting an image; a two-step node, for a Sync
+// with S clear.
 pub const OUTPUT_TOO_SMALL: u8 = 12;
 
 // 13, 14: adding a record to the table; a two-step node, for a Sync with S set and for a Delay_Req.
@@ -62,7 +63,7 @@ pub const BAD_ENTRY: u8 = 20;
 
 pub const NO_ENTRY: u8 = 21;
 
-// 22: writing or loading an image of the table.
+// 22: writing, loading or converting an image of the table.
 pub const IMAGE: u8 = 22;
 
 // 24: the TTL for the next timing node, and the label entries with it.
@@ -73,3 +74,6 @@ pub const LABEL: u8 = 25;
 
 // 26: running a capture again.
 pub const CAPTURE: u8 = 26;
+
+// 27: converting an image that holds a Delay record to the old form.
+pub const DELAY_RECORD: u8 = 27;

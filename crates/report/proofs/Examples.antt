@@ -14,7 +14,7 @@ use Rattle.residence.specs.declared.Residence.{Residence}
 use Rattle.residence.specs.declared.Residence.the-variants.{Units, InvalidStamp}
 use Rattle.records.specs.Slots.{same, holds, zeros}
 use Rattle.records.specs.Node.{tableAnswer, Event, tick, call, switchover, step, run}
-use Rattle.image.specs.Image.{sound, ofSync, differ}
+use Rattle.image.specs.Image.{sound, differ}
 use Rattle.image.specs.Layout.{sum}
 use Rattle.rules.specs.Change.{withTwoStep, followUpOf}
 use Rattle.rules.specs.Rules.{Mode, oneStep, twoStep, Call, updated, waiting, created, added, asItCame, addToPad, rules}
@@ -83,12 +83,12 @@ theirs =
     }
 
 events-report : reportOf events ≡ theirs
-unfolding same holds sound ofSync differ
+unfolding same holds sound differ
 events-report = refl
 
 -- the stay of 1,500 ns counts once, where it is added
 events-residences : residencesOf events ≡ 327680 ∷ 98304000 ∷ 13107200 ∷ []
-unfolding same holds sound ofSync differ
+unfolding same holds sound differ
 events-residences = refl
 
 events-calls : callsIn events ≡ 8
@@ -96,26 +96,26 @@ events-calls = refl
 
 -- the theorems, for these: each left side is the count in the report
 events-waiting : 1 ≡ givenIn (value waiting) (run rules (replicate 16 zeros) events)
-unfolding same holds sound ofSync differ
+unfolding same holds sound differ
 events-waiting = counts-of-run events (value waiting)
 
 events-refused : 1 ≡ givenIn (refused 13) (run rules (replicate 16 zeros) events)
-unfolding same holds sound ofSync differ
+unfolding same holds sound differ
 events-refused = counts-of-run events (refused 13)
 
 events-total : total (theirs .counts) ≡ 8
-unfolding same holds sound ofSync differ
+unfolding same holds sound differ
 events-total = counts-add-up events
 
 events-span : Spans (Between 327680 98304000) (327680 ∷ 98304000 ∷ 13107200 ∷ [])
-unfolding same holds sound ofSync differ
+unfolding same holds sound differ
 events-span = least-and-greatest events
 
 events-order : _≤_ 327680 98304000
 events-order = least-first events 327680 98304000 (ap (λ (r : Report). r .residences .range) events-report)
 
 events-sum : 111738880 ≡ sum (residencesOf events)
-unfolding same holds sound ofSync differ
+unfolding same holds sound differ
 events-sum = sum-of-residences events
 
 -- ---- what counts of a call is on a pad: the record's stay on that of the Follow_Up, and a call's own on that of its message or of the

@@ -14,7 +14,7 @@ use Rattle.refusal.specs.Answer.{refused}
 use Rattle.residence.specs.declared.Residence.the-variants.{InvalidStamp}
 use Rattle.records.specs.Slots.{Slots, same, holds, zeros, find}
 use Rattle.records.specs.Node.{Event, tick, call, switchover, replied, run, final}
-use Rattle.image.specs.Image.{sound, ofSync, differ}
+use Rattle.image.specs.Image.{sound, differ}
 use Rattle.rules.specs.Change.{padOf}
 use Rattle.rules.specs.Rules.{oneStep, twoStep, Call, asItCame, updated, passed, waiting, added, rules}
 use Rattle.rules.specs.Path.{Stop, Unrefused, Apart, Every, FirstWay, SecondWay, FollowUps, existing, never, residences}
@@ -80,14 +80,14 @@ abbrev path : List Stop
 path = first ∷ second ∷ third ∷ []
 
 sync-way : FirstWay (setSync (negsuc 4)) path (setSync (pos 98303995))
-unfolding same holds sound ofSync differ
+unfolding same holds sound differ
 sync-way =
     FirstWay.cross (visit first 0 syncFirst updated (setSync (pos 98303995)) spare refl refl refl)
     (FirstWay.cross (visit second 1 syncSecond waiting (setSync (pos 98303995)) spare refl refl refl)
     (FirstWay.cross (visit third 0 syncThird waiting (setSync (pos 98303995)) spare refl refl refl) FirstWay.done))
 
 follow-up-way : SecondWay (itsFollowUp 11) (third ∷ first ∷ second ∷ []) (itsFollowUp 16384011)
-unfolding same holds sound ofSync differ
+unfolding same holds sound differ
 follow-up-way =
     SecondWay.cross 3 refl (visit third 3 followUpThird added (itsFollowUp 3276811) spare refl refl refl)
     (SecondWay.cross 2 refl (visit first 2 followUpFirst passed (itsFollowUp 3276811) spare refl refl refl)
@@ -99,7 +99,7 @@ another-order =
     (List·Permᴰ·cons {a = first} {b = first} refl (List·Permᴰ·swap {a = third} {b = second} {a′ = second} {b′ = third} refl refl))
 
 all-apart : Every (Apart mine) path
-unfolding same holds sound ofSync differ
+unfolding same holds sound differ
 all-apart = (
   apart mine first refl (λ e. inl refl, (tt, (λ e. inr refl, tt))),
   (
@@ -109,7 +109,7 @@ all-apart = (
 )
 
 none-refused : Every Unrefused path
-unfolding same holds sound ofSync differ
+unfolding same holds sound differ
 none-refused = (unrefused first refl refl, (unrefused second refl refl, (unrefused third refl refl, tt)))
 
 -- 98,303,995 + 16,384,011 = -5 + 11 + 114,688,000
@@ -135,21 +135,21 @@ abbrev oneStepPath : List Stop
 oneStepPath = alone updatedFirst ∷ alone updatedSecond ∷ []
 
 one-step-way : FirstWay (aSync false 7) oneStepPath (aSync false 111411207)
-unfolding same holds sound ofSync differ
+unfolding same holds sound differ
 one-step-way =
     FirstWay.cross (visit (alone updatedFirst) 1 updatedFirst updated (aSync false 98304007) spare refl refl refl)
     (FirstWay.cross (visit (alone updatedSecond) 1 updatedSecond updated (aSync false 111411207) spare refl refl refl) FirstWay.done)
 
 none-created : FollowUps mine false oneStepPath (pos 0) (pos 0)
-unfolding same holds sound ofSync differ
+unfolding same holds sound differ
 none-created = never {ns = oneStepPath} ((refl, not-created refl), ((refl, not-created refl), tt))
 
 one-step-apart : Every (Apart mine) oneStepPath
-unfolding same holds sound ofSync differ
+unfolding same holds sound differ
 one-step-apart = (apart mine (alone updatedFirst) refl (tt, (λ e. inl refl, tt)), (apart mine (alone updatedSecond) refl (tt, (λ e. inl refl, tt)), tt))
 
 one-step-unrefused : Every Unrefused oneStepPath
-unfolding same holds sound ofSync differ
+unfolding same holds sound differ
 one-step-unrefused = (unrefused (alone updatedFirst) refl refl, (unrefused (alone updatedSecond) refl refl, tt))
 
 -- 111,411,207 + 0 = 7 + 0 + 111,411,200
@@ -177,7 +177,7 @@ abbrev late : Stop
 late = record { mode = twoStep; table = new; events = tooLate; firstPlace = 0; secondPlace = some 6 }
 
 waiting-late : Waiting new tooLate mine (50 * 65536) 0 6 followUpThird
-unfolding same holds sound ofSync differ
+unfolding same holds sound differ
 waiting-late =
     waits mine late (50 * 65536) 0 6 syncThird followUpThird
     (apart mine late refl (λ e. inl refl, (tt, (tt, (tt, (other refl, (tt, (λ e. inr refl, tt))))))))

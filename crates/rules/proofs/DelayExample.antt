@@ -1,6 +1,6 @@
 -- The first half of demand 3 can be met by a Delay_Req and its Delay_Resp: there over a one-step and two two-step nodes, 1,500, 200 and 50 ns,
--- and back in reverse. A Sync of the same port and sequence waits beside the Delay_Req at the second node, and at the third a record of
--- one; a switchover is refused while the Delay record waits.
+-- and back in reverse. A Sync of the same port and sequence waits beside the Delay_Req at the second node, where a switchover takes both
+-- records over, and at the third a record of one.
 -- Assumes nothing.
 use Prim.Native.Nat.{ℕ, _*_}
 use mathlib.Core.Path.{_≡_, refl}
@@ -15,9 +15,9 @@ use Rattle.refusal.specs.Answer.{value, refused}
 use Rattle.residence.specs.declared.Residence.the-variants.{InvalidStamp}
 use Rattle.records.specs.declared.RecordKind.the-variants.{Delay}
 use Rattle.records.specs.declared.Identity.{Identity}
-use Rattle.records.specs.Slots.{same, holds, zeros, find}
+use Rattle.records.specs.Slots.{Slots, same, holds, zeros, find}
 use Rattle.records.specs.Node.{Event, tick, call, switchover, told, replied, taken-over, run, final}
-use Rattle.image.specs.Image.{sound, ofSync, differ, imageOf}
+use Rattle.image.specs.Image.{sound, differ, imageOf, handedOver}
 use Rattle.rules.specs.Change.{padOf}
 use Rattle.rules.specs.Rules.{oneStep, twoStep, Call, asItCame, addToPad, updated, passed, waiting, added, rules}
 use Rattle.rules.specs.Path.{Stop, Unrefused, Apart, Every, FirstWay, SecondWay, residences}
@@ -109,37 +109,47 @@ back = third ∷ second ∷ first ∷ []
 at-second :
     answers (run rules (second .table) (second .events))
     ≡ replied (value waiting) ∷ replied (value waiting) ∷ taken-over ∷ told 0 ∷ replied (value added) ∷ replied (value added) ∷ taken-over ∷ []
-unfolding same holds sound ofSync differ
+unfolding same holds sound differ
 at-second = refl
 
 at-third :
     answers (run rules (third .table) (third .events))
     ≡ replied (value waiting) ∷ told 0 ∷ told 1 ∷ replied (value added) ∷ replied (refused 15) ∷ []
-unfolding same holds sound ofSync differ
+unfolding same holds sound differ
 at-third = refl
 
--- the first switchover at the second node is refused with 22 and leaves the table as it is; the second one is not refused
-stopped : imageOf (final rules (second .table) (take 2 (second .events))) ≡ refused 22
-unfolding same holds sound ofSync differ
-stopped = refl
+-- at the first switchover of the second node both records wait: the image tells their kinds (document 02, W-211), and the card that takes
+-- over has the same table
+abbrev both : Slots
+both = final rules (second .table) (take 2 (second .events))
 
-stays : final rules (second .table) (take 3 (second .events)) ≡ final rules (second .table) (take 2 (second .events))
-unfolding same holds sound ofSync differ
-stays = refl
+goes-over :
+    (imageOf both
+    ≡ value
+    (0xFF ∷ 0x02 ∷ 0x00 ∷ 0x06 ∷ 0x00 ∷ 0x1C
+    ∷ 0x00 ∷ 0x00 ∷ 0x01 ∷ 0x02 ∷ 0x03 ∷ 0x04 ∷ 0x05 ∷ 0x06 ∷ 0x07 ∷ 0x00 ∷ 0x01 ∷ 0x01 ∷ 0x02
+    ∷ 0x00 ∷ 0x00 ∷ 0x00 ∷ 0x00 ∷ 0x00 ∷ 0x09 ∷ 0x00 ∷ 0x00 ∷ 0x03
+    ∷ 0x01 ∷ 0x00 ∷ 0x01 ∷ 0x02 ∷ 0x03 ∷ 0x04 ∷ 0x05 ∷ 0x06 ∷ 0x07 ∷ 0x00 ∷ 0x01 ∷ 0x01 ∷ 0x02
+    ∷ 0x00 ∷ 0x00 ∷ 0x00 ∷ 0x00 ∷ 0x00 ∷ 0xC8 ∷ 0x00 ∷ 0x00 ∷ 0x03
+    ∷ []))
+    × (handedOver both ≡ value both)
+unfolding same holds sound differ
+goes-over = (refl, refl)
 
-goes-on : imageOf (final rules (second .table) (take 6 (second .events))) ≡ value (0 ∷ [])
-unfolding same holds sound ofSync differ
+-- at the second one no record waits
+goes-on : imageOf (final rules (second .table) (take 6 (second .events))) ≡ value (0xFF ∷ 0x00 ∷ [])
+unfolding same holds sound differ
 goes-on = refl
 
 there : FirstWay (request (negsuc 4)) path (request (pos 98303995))
-unfolding same holds sound ofSync differ
+unfolding same holds sound differ
 there =
     FirstWay.cross (visit first 0 requestFirst updated (request (pos 98303995)) spare refl refl refl)
     (FirstWay.cross (visit second 1 requestSecond waiting (request (pos 98303995)) spare refl refl refl)
     (FirstWay.cross (visit third 0 requestThird waiting (request (pos 98303995)) spare refl refl refl) FirstWay.done))
 
 returning : SecondWay (response (pos 11)) back (response (pos 16384011))
-unfolding same holds sound ofSync differ
+unfolding same holds sound differ
 returning =
     SecondWay.cross 3 refl (visit third 3 responseThird added (response (pos 3276811)) spare refl refl refl)
     (SecondWay.cross 5 refl (visit second 5 responseSecond added (response (pos 16384011)) spare refl refl refl)
@@ -152,11 +162,11 @@ reversed =
     (List·Permᴰ·swap {a = second} {b = first} {a′ = first} {b′ = second} refl refl))
 
 third-apart : Apart mine third
-unfolding same holds sound ofSync differ
+unfolding same holds sound differ
 third-apart = apart mine third refl (λ e. inl refl, (tt, (tt, (λ e. inr refl, (other refl, tt)))))
 
 all-apart : Every (Apart mine) path
-unfolding same holds sound ofSync differ
+unfolding same holds sound differ
 all-apart = (
   apart mine first refl (λ e. inl refl, (tt, (λ e. inr refl, tt))),
   (
@@ -166,7 +176,7 @@ all-apart = (
 )
 
 none-refused : Every Unrefused path
-unfolding same holds sound ofSync differ
+unfolding same holds sound differ
 none-refused = (unrefused first refl refl, (unrefused second refl refl, (unrefused third refl refl, tt)))
 
 -- 98,303,995 + 16,384,011 = -5 + 11 + 1,750 * 65,536
@@ -180,7 +190,7 @@ in-numbers = sum
 
 -- at the third node the Delay_Resp comes two ticks after the Delay_Req, in time
 waiting-third : Waiting (third .table) (third .events) mine (50 * 65536) 0 3 responseThird
-unfolding same holds sound ofSync differ
+unfolding same holds sound differ
 waiting-third =
     waits mine third (50 * 65536) 0 3 requestThird responseThird third-apart refl refl (omega arith) (refl, refl, refl, refl) refl (refl, refl, refl)
 
@@ -195,7 +205,7 @@ abbrev late : Stop
 late = record { mode = twoStep; table = replicate 16 zeros; events = tooLate; firstPlace = 0; secondPlace = some 5 }
 
 waiting-late : Waiting (late .table) tooLate mine (50 * 65536) 0 5 responseThird
-unfolding same holds sound ofSync differ
+unfolding same holds sound differ
 waiting-late =
     waits mine late (50 * 65536) 0 5 requestThird responseThird
     (apart mine late refl (λ e. inl refl, (tt, (tt, (other refl, (tt, (λ e. inr refl, tt)))))))

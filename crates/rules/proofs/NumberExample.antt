@@ -1,5 +1,6 @@
--- The number of waiting records in service, worked: over calls that add and collect, a refused one, ticks and two switchovers, of which one
--- is refused; and in two orders from a loaded table, where it is the same. From a number that no library made it is not.
+-- The number of waiting records in service, worked: over calls that add and collect, a refused one, ticks and two switchovers, the first
+-- while a Delay record waits; and in two orders from a loaded table, where it is the same. From a number that no library made it is not. A
+-- switchover that is refused leaves it.
 -- Assumes nothing.
 use Prim.Native.Nat.{ℕ, zero, suc, _<_}
 use mathlib.Core.Path.{_≡_, refl, sym, ap, _∙_}
@@ -15,11 +16,12 @@ use Rattle.records.specs.Slots.{Slots, same, holds, zeros}
 use Rattle.records.specs.Node.{Event, tick, call, switchover, told, replied, taken-over, step, run}
 use Rattle.records.specs.Order.{ticks, Reordered, NoWant}
 use Rattle.records.specs.Number.{readNumber, numberStep, finalNumber}
-use Rattle.image.specs.Image.{sound, ofSync, differ, filled, recordsAt}
+use Rattle.image.specs.declared.Form.the-variants.{New}
+use Rattle.image.specs.Image.{sound, differ, imageOf, filled, recordsAt}
 use Rattle.rules.specs.Rules.{kindOf, kindIdentity, twoStep, Call, waiting, added, rules}
 use Rattle.rules.specs.Service.{Started, new, loaded}
 use Rattle.rules.proofs.Serves.{number-in-service, number-order-free}
-use Rattle.rules.proofs.Samples.{numbered, octetsOf, stayed, handedIn, answers, callIn, reorderedBy, no-want, fine}
+use Rattle.rules.proofs.Samples.{numbered, octetsOf, stayed, handedIn, recordOf, answers, callIn, reorderedBy, no-want, fine}
 use Rattle.rules.proofs.ServiceExample.{oneRecord}
 
 -- a call on a message of this sequence and PTPType
@@ -49,7 +51,7 @@ events-answers :
     answers (run rules start events)
     ≡ replied (value waiting) ∷ replied (refused 13) ∷ replied (value waiting) ∷ told 0 ∷ taken-over
     ∷ replied (value added) ∷ taken-over ∷ replied (value waiting) ∷ told 0 ∷ told 1 ∷ []
-unfolding same holds sound ofSync differ
+unfolding same holds sound differ
 events-answers = refl
 
 -- the number after each of them
@@ -58,22 +60,22 @@ numbers t n [] = []
 numbers t n (e ∷ es) = numberStep rules t n e ∷ numbers (step rules t e) (numberStep rules t n e) es
 
 events-numbers : numbers start 0 events ≡ 1 ∷ 1 ∷ 2 ∷ 2 ∷ 2 ∷ 1 ∷ 1 ∷ 2 ∷ 2 ∷ 1 ∷ []
-unfolding same holds sound ofSync differ
+unfolding same holds sound differ
 events-numbers = refl
 
 -- the theorem, for these
 in-service : (finalNumber rules start 0 events ≡ 1) × (readNumber (finalNumber rules start 0 events) ≡ 1)
-unfolding same holds sound ofSync differ
+unfolding same holds sound differ
 in-service = number-in-service start 0 events new
 
 -- ---- two orders
 
 -- one record waits, loaded over a table whose number is 200
 abbrev slots : Slots
-slots = filled (recordsAt oneRecord)
+slots = filled (recordsAt New oneRecord)
 
 one-loaded : Started slots 1
-unfolding same holds sound ofSync differ
+unfolding same holds sound differ
 one-loaded = loaded oneRecord start slots 200 1 refl
 
 -- a Sync is put in before the record is collected, or behind it
@@ -126,11 +128,11 @@ reordered =
     (λ i j c d q a b e f l. apart i j c d a b (ap sequenceAt a ∙ ap sequenceIn (e ∙ sym f) ∙ sym (ap sequenceAt b)) l)
 
 this-fits : NoWant rules slots this
-unfolding same holds sound ofSync differ
+unfolding same holds sound differ
 this-fits = no-want slots this (fine, (fine, tt))
 
 that-fits : NoWant rules slots that
-unfolding same holds sound ofSync differ
+unfolding same holds sound differ
 that-fits = no-want slots that (fine, (fine, tt))
 
 -- the theorem, for these two: from the loaded table both end with 1
@@ -138,14 +140,27 @@ alike : finalNumber rules slots 1 this ≡ finalNumber rules slots 1 that
 alike = number-order-free slots 1 this that one-loaded reordered this-fits that-fits
 
 ends : finalNumber rules slots 1 that ≡ 1
-unfolding same holds sound ofSync differ
+unfolding same holds sound differ
 ends = refl
 
 -- from the same slots with a number of 16 the one ends with 15 and the other with 16
 this-15 : finalNumber rules slots 16 this ≡ 15
-unfolding same holds sound ofSync differ
+unfolding same holds sound differ
 this-15 = refl
 
 that-16 : finalNumber rules slots 16 that ≡ 16
-unfolding same holds sound ofSync differ
+unfolding same holds sound differ
 that-16 = refl
+
+-- ---- a switchover that is refused
+
+-- a table that no library made, with a wait of 4, cannot be written: slots and number stay
+abbrev unloadable : Slots
+unloadable = recordOf (numbered 258) 4 ∷ replicate 15 zeros
+
+stays :
+    (imageOf unloadable ≡ refused 22)
+    × (step rules unloadable switchover ≡ unloadable)
+    × (numberStep rules unloadable 200 switchover ≡ 200)
+unfolding same holds sound differ
+stays = (refl, refl, refl)

@@ -12,7 +12,7 @@ use Rattle.records.specs.declared.RecordKind.the-variants.{Sync}
 use Rattle.records.specs.declared.Record.{Record}
 use Rattle.records.specs.Slots.{same, holds, zeros}
 use Rattle.records.specs.Node.{Event, tick, call}
-use Rattle.image.specs.Image.{sound, ofSync, differ}
+use Rattle.image.specs.Image.{sound, differ}
 use Rattle.rules.specs.Rules.{oneStep, twoStep, Call}
 use Rattle.rules.specs.Numbers.{Given}
 use Rattle.rules.specs.Service.{new}
@@ -57,5 +57,5 @@ abbrev itsRecord : Record
 itsRecord = record { kind = Sync; clock = 283686952306183; port = 1; sequence = 258; residence = 262143999999999; wait = 2 }
 
 longest-below : itsRecord .residence < 262144000000000
-unfolding same holds sound ofSync differ
+unfolding same holds sound differ
 longest-below = residences-below (replicate 16 zeros) 0 longest new 0 itsRecord refl

@@ -15,7 +15,7 @@ use Rattle.residence.specs.declared.Residence.the-variants.{InvalidStamp}
 use Rattle.records.specs.declared.Identity.{Identity}
 use Rattle.records.specs.Slots.{Slots, same, holds, zeros, lowest}
 use Rattle.records.specs.Node.{tick, call, switchover, Result, told, replied, taken-over, run, final}
-use Rattle.image.specs.Image.{sound, ofSync, differ}
+use Rattle.image.specs.Image.{sound, differ}
 use Rattle.rules.specs.Change.{padOf}
 use Rattle.rules.specs.Rules.{oneStep, twoStep, Call, Word, addToPad, updated, passed, created, waiting, added, rules}
 use Rattle.rules.specs.Path.{Stop, Unrefused, Apart, Every, FirstWay, SecondWay, FollowUps, born, residences}
@@ -137,27 +137,27 @@ abbrev at : Stop → List (Result (Answer Word))
 at n = answers (run rules (n .table) (n .events))
 
 at-first : at first ≡ taken-over ∷ replied (refused 13) ∷ told 1 ∷ replied (refused 4) ∷ replied (value updated) ∷ replied (value updated) ∷ told 0 ∷ []
-unfolding same holds sound ofSync differ
+unfolding same holds sound differ
 at-first = refl
 
 at-second : at second ≡ replied (value waiting) ∷ replied (refused 9) ∷ replied (value created) ∷ replied (value added) ∷ told 0 ∷ replied (value passed) ∷ []
-unfolding same holds sound ofSync differ
+unfolding same holds sound differ
 at-second = refl
 
 at-third :
     at third
     ≡ told 0 ∷ replied (refused 4) ∷ replied (value passed) ∷ replied (value waiting) ∷ told 1 ∷ taken-over ∷ replied (refused 15)
     ∷ told 1 ∷ replied (value added) ∷ replied (value updated) ∷ told 0 ∷ taken-over ∷ []
-unfolding same holds sound ofSync differ
+unfolding same holds sound differ
 at-third = refl
 
 -- the first switchover there moves the Sync's record from slot 1 to slot 0
 slot-before : lowest (holds mine) (final rules spread (take 5 (third .events))) ≡ 1
-unfolding same holds sound ofSync differ
+unfolding same holds sound differ
 slot-before = refl
 
 slot-behind : lowest (holds mine) (final rules spread (take 6 (third .events))) ≡ 0
-unfolding same holds sound ofSync differ
+unfolding same holds sound differ
 slot-behind = refl
 
 -- the octets are document 01's, but for the sub-TLV's length: 16, as a neighbour writes it (W-202)
@@ -172,30 +172,30 @@ abbrev left : List ℕ
 left = aFollowUp 13107200 ++ replicate 4 0
 
 sync-way : FirstWay (aSync false 0) path (aSync true 98304000)
-unfolding same holds sound ofSync differ
+unfolding same holds sound differ
 sync-way =
     FirstWay.cross (visit first 4 syncFirst updated (aSync false 98304000) spare refl refl refl)
     (FirstWay.cross (visit second 2 syncSecond created (aSync true 98304000) left refl refl refl)
     (FirstWay.cross (visit third 3 syncThird waiting (aSync true 98304000) spare refl refl refl) FirstWay.done))
 
 follow-up-way : SecondWay (aFollowUp 13107200) (third ∷ []) (aFollowUp 16384000)
-unfolding same holds sound ofSync differ
+unfolding same holds sound differ
 follow-up-way = SecondWay.cross 8 refl (visit third 8 followUpThird added (aFollowUp 16384000) spare refl refl refl) SecondWay.done
 
 follow-ups : FollowUps mine false path (pos 0) (padOf (aFollowUp 16384000))
-unfolding same holds sound ofSync differ
+unfolding same holds sound differ
 follow-ups =
     born (first ∷ []) second {r = after created (aSync true 98304000) left} {last = aFollowUp 16384000} (refl, tt) refl refl refl
     (List·Permᴰ·cons refl List·Permᴰ·nil) follow-up-way
 
 third-apart : Apart mine third
-unfolding same holds sound ofSync differ
+unfolding same holds sound differ
 third-apart =
     apart mine third refl
     (tt, (other refl, (other refl, (λ e. inl refl, (tt, (tt, (other refl, (tt, (λ e. inr refl, (other refl, (tt, (tt, tt))))))))))))
 
 all-apart : Every (Apart mine) path
-unfolding same holds sound ofSync differ
+unfolding same holds sound differ
 all-apart = (
   apart mine first refl (tt, (other refl, (tt, (other refl, (λ e. inl refl, (other refl, (tt, tt))))))),
   (
@@ -205,7 +205,7 @@ all-apart = (
 )
 
 none-refused : Every Unrefused path
-unfolding same holds sound ofSync differ
+unfolding same holds sound differ
 none-refused = (unrefused first refl refl, (unrefused second refl refl, (unrefused third refl refl, tt)))
 
 -- the theorem's equation for this path, and its numbers: 98,304,000 + 16,384,000 = 0 + 0 + 114,688,000
@@ -223,7 +223,7 @@ in-numbers = sum
 
 -- at the third node the Follow_Up comes two ticks and a switchover after the Sync, in time
 waiting-third : Waiting spread (third .events) mine (50 * 65536) 3 8 followUpThird
-unfolding same holds sound ofSync differ
+unfolding same holds sound differ
 waiting-third =
     waits mine third (50 * 65536) 3 8 syncThird followUpThird third-apart refl refl (omega arith) (refl, refl, refl, refl) refl (refl, refl, refl)
 

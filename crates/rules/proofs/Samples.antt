@@ -2,13 +2,11 @@
 -- Assumes nothing.
 use Prim.Native.Nat.{ℕ, zero, suc, _*_, _<_}
 use mathlib.Core.Path.{_≡_, refl, sym, ap, subst, _∙_}
-use mathlib.Core.Bool.{Bool, true, false, _&&_, and-eq-true-iff, true≢false}
+use mathlib.Core.Bool.{Bool, true, false, true≢false}
 use mathlib.Core.List.{List, [], _∷_, map}
 use mathlib.Core.Logic.{_⊎_, inl, inr}
 use mathlib.Core.Option.{Option, none, some, Option·none-ne-some}
 use native.Mathlib.Omega.{arith}
-use borrow.Author.Tests.{ltb-true}
-use lib.Dec.{ltb}
 use lib.IntN.{ℤ}
 use lib.ListN.{length, getElem?, replicate}
 use Rattle.octets.specs.Octets.{Octets}
@@ -220,15 +218,6 @@ pub fine : {w : Word} → value w ≡ refused 14 → ⊥
 fine e = not-both (sym e)
 
 -- messages of octets
-abbrev pub low : List ℕ → Bool
-low [] = true
-low (x ∷ s) = ltb x 256 && low s
-
-pub low-octets : (s : List ℕ) → low s ≡ true → Octets s
-low-octets [] h i = omega arith
-low-octets (x ∷ s) h zero = ltb-true x 256 (and-eq-true-iff (ltb x 256) (low s) .0 h .0)
-low-octets (x ∷ s) h (suc i) = low-octets s (and-eq-true-iff (ltb x 256) (low s) .0 h .1) i
-
 abbrev pub Low : ℕ → Event Call → Type 0
 Low k tick = Unit {0}
 Low k (call c) = Octets (c .message)

@@ -1,7 +1,7 @@
 -- Demand 3: two theorems about whole lists of node calls and ticks, and how long a record waits. In all of them switchovers may stand
 -- anywhere in a list, also at its start and its end: the table is replaced by its written and loaded self (document 02, W-201: "Demand 3
--- reads a loaded table as the one written"), or stays as it is where it cannot be written, as while a Delay record waits (W-204). A list
--- without any is one of these lists.
+-- reads a loaded table as the one written"), whatever kinds of records wait (W-211), or stays as it is where it cannot be written, as no
+-- table in service does (Service `AlwaysWritten`). A list without any is one of these lists.
 use Prim.Native.Nat.{ℕ, _+_, _<_, _≤_}
 use mathlib.Core.Path.{_≡_}
 use mathlib.Core.Bool.{Bool, false}

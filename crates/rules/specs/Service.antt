@@ -1,12 +1,11 @@
--- What holds in service, of what node calls, ticks and switchovers make of a new or a loaded table. Nothing stops a switchover but a Delay
--- record (document 02, W-201 and W-204): the table can be written whenever none waits, and a switchover that is refused leaves it as it
--- is. No residence in it is too long. And the number that the table keeps is that of its records (W-206).
-use Prim.Native.Nat.{ℕ, _<_}
+-- What holds in service, of what node calls, ticks and switchovers make of a new or a loaded table. Nothing stops a switchover (document 02,
+-- W-201 and W-211): the table can always be written, whatever kinds of records wait. No residence in it is too long. And the number that
+-- the table keeps is that of its records (W-206).
+use Prim.Native.Nat.{ℕ, _<_, _≤_}
 use mathlib.Core.Path.{_≡_}
-use mathlib.Core.Bool.{true}
 use mathlib.Core.List.{List}
 use mathlib.Core.Option.{some}
-use lib.ListN.{getElem?, replicate}
+use lib.ListN.{length, getElem?, replicate}
 use Rattle.octets.specs.Octets.{Octets}
 use Rattle.refusal.specs.Answer.{value}
 use Rattle.records.specs.declared.Record.{Record}
@@ -14,7 +13,7 @@ use Rattle.records.specs.Slots.{Slots, zeros, recordsOf, recordsIn}
 use Rattle.records.specs.Node.{Node, Event, call, final}
 use Rattle.records.specs.Order.{Reordered, NoWant}
 use Rattle.records.specs.Number.{readNumber, finalNumber, Aside}
-use Rattle.image.specs.Image.{every, ofSync, imageOf, loadInto}
+use Rattle.image.specs.Image.{imageOf, loadInto}
 use Rattle.rules.specs.Rules.{Call, rules, callOf}
 
 -- a table that a card starts with, its slots and its number: a new one, or one that an image loads, over whatever table was there
@@ -27,17 +26,13 @@ pub data Started : Slots → ℕ → Type 0 where
 abbrev pub InOctets : List (Event Call) → Type 0
 InOctets es = (k : ℕ) (c : Call) → getElem? es k ≡ some (call c) → Octets (c .message)
 
--- no Delay record waits
-abbrev pub NoDelay : Slots → Type 0
-NoDelay t = every ofSync (recordsOf t) ≡ true
-
+-- It has an image, of at most 386 octets: an output of that size takes it.
 abbrev pub AlwaysWritten : Type 0
 AlwaysWritten =
     (t : Slots) (n : ℕ) (es : List (Event Call))
     → Started t n
     → InOctets es
-    → NoDelay (final rules t es)
-    → (s : List ℕ) × (imageOf (final rules t es) ≡ value s)
+    → (s : List ℕ) × (imageOf (final rules t es) ≡ value s) × (length s ≤ 386)
 
 -- No residence that waits reaches 262,144,000,000,000 units, what refusal 10 refuses: a call adds none such, and no image brings one. So a
 -- Follow_Up or a Delay_Resp has less than that added (document 02, W-209: the sum of a report is exact because of it).

@@ -7,62 +7,65 @@ use mathlib.Core.Bool.{Bool, true, false, not, _&&_, and-false}
 use mathlib.Core.List.{List, map}
 use native.Mathlib.Omega.{arith}
 use borrow.Author.Tests.{lt-leb}
-use lib.ListN.{length, take, replicate, length-map}
+use lib.ListN.{length, take, replicate}
 use lib.Seq.{take-at}
-use Rattle.refusal.specs.Answer.{value, refused, refuse}
+use Rattle.refusal.specs.Answer.{Answer, value, refused, refuse, andThen}
 use Rattle.records.specs.declared.Record.{Record}
 use Rattle.records.specs.Slots.{Slots, Outcome, zeros, recordsIn}
 use Rattle.records.proofs.Numbers.{records-same}
-use Rattle.image.specs.Layout.{fieldsAt, bodySize, firstBody, offsets, countIn, isLaidOut, bodiesIn}
-use Rattle.image.specs.Image.{form, recordOf, every, sound, ofSync, distinct, loadable, filled, recordsAt, loadOf, loadBy, loadInto}
-use Rattle.image.proofs.Layouts.{length-places}
-use Rattle.image.proofs.Returns.{load-taken, load-sound}
+use Rattle.image.specs.declared.Form.{Form}
+use Rattle.image.specs.Layout.{fieldsAt, widths, offsets, countIn, isLaidOut}
+use Rattle.image.specs.Image.{recordOf, every, sound, distinct, loadable, recordsAt, filled, loadAs, loadBy}
+use Rattle.image.proofs.Loadable.{loadable-filled}
+use Rattle.image.proofs.Images.{length-records, read-taken}
 
 -- the records that fill the slots are the first of them
 pub filled-first : (rs : Slots) (n : ℕ) → length rs ≡ n → take n (filled rs) ≡ rs
 filled-first rs n e = take-at rs (replicate (16 - length rs) zeros) n e
 
-module _ (s : List ℕ) where
-  -- an image has as many records as it says
-  pub length-records : length (recordsAt s) ≡ countIn form s
-  length-records =
-      let n = countIn form s in
-      length-map (bodiesIn form s) recordOf
-      ∙ length-map (offsets form n) (fieldsAt (form .widths) s)
-      ∙ length-places (bodySize form) (firstBody form n) n
+-- as many as the slots hold
+pub filled-number : (rs : Slots) → loadable rs ≡ true → recordsIn (filled rs) ≡ length rs
+filled-number rs h = records-same (filled rs) ∙ ap length (loadable-filled rs h)
 
-  pub unlaid : isLaidOut form s ≡ false → loadOf s ≡ refused 22
-  unlaid e = ap (λ (b : Bool). refuse 22 (not (b && loadable (recordsAt s))) (value (filled (recordsAt s)))) e
+module _ (F : Form) (s : List ℕ) where
+  untaken : isLaidOut F s && loadable (recordsAt F s) ≡ false → loadAs F s ≡ refused 22
+  untaken e = ap (λ (b : Bool). andThen (refuse 22 (not b) (value (recordsAt F s))) (λ rs. value (filled rs))) e
 
-  pub unloadable : loadable (recordsAt s) ≡ false → loadOf s ≡ refused 22
-  unloadable e =
-      ap (λ (b : Bool). refuse 22 (not (isLaidOut form s && b)) (value (filled (recordsAt s)))) e
-      ∙ ap (λ (b : Bool). refuse 22 (not b) (value (filled (recordsAt s)))) (and-false (isLaidOut form s))
+  pub unlaid : isLaidOut F s ≡ false → loadAs F s ≡ refused 22
+  unlaid e = untaken (ap (λ (b : Bool). b && loadable (recordsAt F s)) e)
 
-  pub too-many : 16 < countIn form s → loadOf s ≡ refused 22
+  pub unloadable : loadable (recordsAt F s) ≡ false → loadAs F s ≡ refused 22
+  unloadable e = untaken (ap (λ (b : Bool). isLaidOut F s && b) e ∙ and-false (isLaidOut F s))
+
+  pub too-many : 16 < countIn F s → loadAs F s ≡ refused 22
   too-many h =
-      let rs = recordsAt s in
-      unloadable (ap (λ (b : Bool). b && (every sound rs && (every ofSync rs && distinct rs))) (lt-leb (length rs) 16 (omega (arith, length-records))))
+      let rs = recordsAt F s in
+      unloadable (ap (λ (b : Bool). b && (every sound rs && distinct rs)) (lt-leb (length rs) 16 (omega (arith, length-records F s))))
 
   -- a refusal that hands back slots of zeros
-  pub not-loaded : (slot : Record) (l : Outcome) → slot ≡ zeros → l ≡ loadBy (replicate 16 slot) 0 (refused 22) → loadOf s ≡ refused 22 → l ≡ loadInto s (replicate 16 zeros) 0
+  pub not-loaded :
+      (slot : Record) (l : Outcome)
+      → slot ≡ zeros
+      → l ≡ loadBy (replicate 16 slot) 0 (refused 22)
+      → loadAs F s ≡ refused 22
+      → l ≡ loadBy (replicate 16 zeros) 0 (loadAs F s)
   not-loaded slot l z e r = e ∙ (λ i. loadBy (replicate 16 (z i)) 0 (sym r i))
 
   -- what was read of n bodies, where the octets say n: the records that they hold
-  module _ (n : ℕ) (l : Slots) (told : n ≡ countIn form s) (read : l ≡ filled (map recordOf (map (fieldsAt (form .widths) s) (offsets form n)))) where
-    pub read-filled : l ≡ filled (recordsAt s)
-    read-filled = read ∙ ap (λ (m : ℕ). filled (map recordOf (map (fieldsAt (form .widths) s) (offsets form m)))) told
+  module _ (n : ℕ) (l : Slots) (told : n ≡ countIn F s) (read : l ≡ filled (map (recordOf F) (map (fieldsAt (widths F) s) (offsets F n)))) where
+    pub read-filled : l ≡ filled (recordsAt F s)
+    read-filled = read ∙ ap (λ (m : ℕ). filled (map (recordOf F) (map (fieldsAt (widths F) s) (offsets F m)))) told
 
-    pub read-records : take n l ≡ recordsAt s
-    read-records = ap (take n) read-filled ∙ filled-first (recordsAt s) n (length-records ∙ sym told)
+    pub read-records : take n l ≡ recordsAt F s
+    read-records = ap (take n) read-filled ∙ filled-first (recordsAt F s) n (length-records F s ∙ sym told)
 
     -- what they load has n records
     pub read-loaded :
-        isLaidOut form s ≡ true
-        → loadable (recordsAt s) ≡ true
-        → record { answer = value 0; slots = l; number = n } ≡ loadInto s (replicate 16 zeros) 0
+        isLaidOut F s ≡ true
+        → loadable (recordsAt F s) ≡ true
+        → record { answer = value 0; slots = l; number = n } ≡ loadBy (replicate 16 zeros) 0 (loadAs F s)
     read-loaded laid sounds =
-        let taken = load-taken s (recordsAt s) laid refl sounds in
-        let u = filled (recordsAt s) in
-        let many : n ≡ recordsIn u = told ∙ sym length-records ∙ ap length (sym (load-sound s u taken .2)) ∙ sym (records-same u) in
+        let rs = recordsAt F s in
+        let taken = ap (λ (a : Answer Slots). andThen a (λ us. value (filled us))) (read-taken F s rs laid refl sounds) in
+        let many : n ≡ recordsIn (filled rs) = told ∙ sym (length-records F s) ∙ sym (filled-number rs sounds) in
         (λ i. record { answer = value 0; slots = read-filled i; number = many i }) ∙ ap (loadBy (replicate 16 zeros) 0) (sym taken)

@@ -1,11 +1,12 @@
-// The records of a table as an image lists them, and which records an image can hold.
+// The records of a table as an image lists them, and which records an image can hold and tell.
+use image::Form;
 use records::Record;
 use records::RecordKind;
 ghost use Prim.Native.Nat.{_+_, _<_, _≤_};
 ghost use mathlib.Core.Path.{_≡_};
 ghost use lib.ListN.{length, getD, take, drop};
 ghost use Rattle.records.specs.Slots.{identityOf, zeros, recordsOf};
-ghost use Rattle.image.specs.Image.{sound, ofSync, every, differ, loadable, filled};
+ghost use Rattle.image.specs.Image.{sound, every, differ, loadable, ofSync, tells, filled};
 
 // Records from slot 0 on, and how many; the other slots are zeros.
 pub(crate) struct Listing {
@@ -44,17 +45,6 @@ fn is_sound(slot: Record) -> bool
     slot.residence < residence::LIMIT
 }
 
-// The record is of kind Sync.
-fn is_of_sync(slot: Record) -> bool
-    ensures { λ r. ⌜ r ≡ ofSync slot ⌝ }
-{
-    let kind = slot.kind;
-    match kind {
-        RecordKind::Sync => true,
-        RecordKind::Delay => false,
-    }
-}
-
 // The identity of record i differs from those of the records after it, of n.
 fn differs_from_rest(records: [Record; 16], n: usize, i: usize) -> bool
     requires { ⌜ (n ≤ 16) × (i < n) ⌝ }
@@ -83,13 +73,48 @@ pub(crate) fn are_loadable(records: [Record; 16], n: usize) -> bool
         if !is_sound(record) {
             return false;
         }
-        if !is_of_sync(record) {
-            return false;
-        }
         if !differs_from_rest(records, n, i) {
             return false;
         }
         i += 1;
     }
     true
+}
+
+// The record is of kind Sync.
+fn is_of_sync(slot: Record) -> bool
+    ensures { λ r. ⌜ r ≡ ofSync slot ⌝ }
+{
+    let kind = slot.kind;
+    match kind {
+        RecordKind::Sync => true,
+        RecordKind::Delay => false,
+    }
+}
+
+// Each of the first n records is of kind Sync.
+fn are_of_sync(records: [Record; 16], n: usize) -> bool
+    requires { ⌜ n ≤ 16 ⌝ }
+    ensures { λ r. ⌜ r ≡ every ofSync (take n records) ⌝ }
+{
+    let mut i: usize = 0;
+    while i < n {
+        let record = records[i];
+        if !is_of_sync(record) {
+            return false;
+        }
+        i += 1;
+    }
+    true
+}
+
+// An image of the form tells the kinds of the first n records.
+pub(crate) fn are_told(form: Form, records: [Record; 16], n: usize) -> bool
+    requires { ⌜ n ≤ 16 ⌝ }
+    ensures { λ r. ⌜ r ≡ tells form (take n records) ⌝ }
+{
+    match form {
+        Form::Old => are_of_sync(records, n),
+        Form::New => true,
+    }
 }

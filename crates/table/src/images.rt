@@ -1,5 +1,5 @@
-// The image of a lent table, written and loaded (document 02, W-201). The image itself is the crate
-// `switchover`.
+// The image of a lent table, written and loaded (document 02, W-201 and W-211). The image itself is
+// the crate `switchover`.
 use refusal::Written;
 use switchover::Loading;
 ghost use mathlib.Core.Path.{_≡_};

@@ -133,16 +133,16 @@ impl Table {
         }
     }
 
-    // Writes the image of this table at the start of the output, which stays as it came beyond the
-    // size and on refusal. Only records count. Refusal 22 where they could not be loaded, or where
-    // one is of kind Delay, then 12.
+    // Writes the image of this table, in the new form, at the start of the output, which stays as it
+    // came beyond the size and on refusal. Only records count. Refusal 22 where they could not be
+    // loaded, then 12.
     pub fn write(self, out: &mut [u8]) -> Written
         ensures { λ r. ⌜ written r (now (out .exit)) ≡ writeOf (slotsOf (self .words)) (now (out .entry)) ⌝ }
     {
         images::write_image(&self.words, out)
     }
 
-    // The table that an image loads: its records, of kind Sync, from slot 0 on, in its order, and
+    // The table that an image of either form loads: its records from slot 0 on, in its order, and
     // zeros; and their number. Reserved words stay. Refusal 22 for any other octets, with the table
     // that came.
     pub fn load(mut self, octets: &[u8]) -> Reloaded

@@ -1,36 +1,31 @@
--- `record_at` meets its contract: each field is read where the fields before it end.
+-- `record_at` meets its contract: in the new form the kind stands before the other fields.
 -- Assumes nothing.
-use Prim.Native.Nat.{_+_}
-use mathlib.Core.Path.{_≡_, ap, _∙_}
+use Prim.Native.Nat.{ℕ, _+_}
+use mathlib.Core.Path.{sym, ap, _∙_}
+use Rattle.image.specs.declared.Form.{Form}
+use Rattle.image.specs.Layout.{fieldsAt, fieldWidths, widths}
+use Rattle.image.specs.Image.{ofKind, recordOf}
 use borrow.Author.Needs.{needs}
-use native.Mathlib.Omega.{arith}
-use Rattle.octets.specs.Octets.{number}
-use Rattle.records.specs.declared.RecordKind.the-variants.{Sync}
 use Rattle.switchover.proofs.bodies.record_at.Statement.{statement}
 use Rattle.switchover.proofs.bodies.record_at.Tie as tie
 
 returns : tie.Need-returns
 returns c =
-    let a = c .before .before .before .before .before .before .args in
-    let s = a .image .now in
-    let clock-at : a .at + 0 ≡ a .at = omega arith in
-    let sequence-at : a .at + 10 ≡ a .at + 8 + 2 = omega arith in
-    let residence-at : a .at + 12 ≡ a .at + 8 + 2 + 2 = omega arith in
-    let wait-at : a .at + 20 ≡ a .at + 8 + 2 + 2 + 8 = omega arith in
-    λ i.
-    record {
-      kind = Sync;
-      clock = (c .before .before .before .before .read64 .ensures ∙ ap (number 8 s) clock-at) i;
-      port = c .before .before .before .read16 .ensures i;
-      sequence = (c .before .before .read162 .ensures ∙ ap (number 2 s) sequence-at) i;
-      residence = (c .before .read642 .ensures ∙ ap (number 8 s) residence-at) i;
-      wait = (c .read8 .ensures ∙ ap (number 1 s) wait-at) i;
-    }
+    let a = c .before .before .before .before .args in
+    c .of-fields .ensures ∙ sym (ap (λ (F : Form). recordOf F (fieldsAt (widths F) (a .image .now) (a .at))) (c .before .enum-told .given .1))
+
+returns-2 : tie.Need-returns-2
+returns-2 c =
+    let a = c .before .before .before .before .before .args in
+    c .of-kind .ensures
+    ∙ ap (λ (k : ℕ). ofKind k (fieldsAt fieldWidths (a .image .now) (a .at + 1))) (c .before .read8 .ensures)
+    ∙ sym (ap (λ (F : Form). recordOf F (fieldsAt (widths F) (a .image .now) (a .at))) (c .before .before .enum-told2 .given .1))
 
 pub record-at-spec : {M : Type 1} → statement M
 record-at-spec =
     tie.close
     (tie.spec
     (λ c. search needs) (λ c κs. search needs) (λ c. search needs) (λ c κs. search needs) (λ c. search needs)
-    (λ c κs. search needs) (λ c. search needs) (λ c κs. search needs) (λ c. search needs) (λ c κs. search needs)
-    returns)
+    (λ c κs. search needs)
+    returns
+    returns-2)
