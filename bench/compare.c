@@ -43,6 +43,8 @@ CALL(tick, table)
 CALL(waiting, table)
 CALL(write_image, table, to->output, in->room, &to->told->size)
 CALL(load_image, table, to->first, in->first_size)
+CALL(image_to_new, to->first, in->first_size, to->output, in->room, &to->told->size)
+CALL(image_to_old, to->first, in->first_size, to->output, in->room, &to->told->size)
 CALL(join, to->first, in->first_size, to->second, in->second_size, &to->told->joined)
 CALL(address_count, to->first, in->first_size, &to->told->size)
 CALL(address_entry, to->first, in->first_size, in->place, &to->told->part)
@@ -104,6 +106,8 @@ static const struct operation {
     {SAME(waiting), input_for_message, 2, COUNTS},
     {SAME(write_image), input_for_message, 8, "0 22 12"},
     {SAME(load_image), input_for_image, 8, "0 22"},
+    {SAME(image_to_new), input_for_image, 8, "0 22 12"},
+    {SAME(image_to_old), input_for_image, 8, "0 22 27 12"},
     {SAME(join), input_for_pair, 12, "0 " READING " 18 11"},
     {SAME(address_count), input_for_list, 4, "0 19 20"},
     {SAME(address_entry), input_for_list, 4, "0 19 20 21"},
@@ -260,13 +264,17 @@ static bool is_refusal(uint8_t answer) {
     return !is_count() && answer > 0 && answer < RTM_UPDATED;
 }
 
+/* It tells how many octets of the output it wrote. */
+static bool tells_size(void) {
+    return operation->library == library_write || operation->library == library_write_image ||
+           operation->library == library_image_to_new || operation->library == library_image_to_old;
+}
+
 /* How many octets of the output the library may have changed. */
 static size_t written(uint8_t answer, const struct told *told) {
     if (operation->library == library_two_step) return answer == RTM_CREATED ? RTM_CREATED_SIZE : 0;
     if (operation->library == library_write_labels) return answer == 0 ? RTM_LABELS_SIZE : 0;
-    if (operation->library == library_write || operation->library == library_write_image) {
-        return answer == 0 ? told->size : 0;
-    }
+    if (tells_size()) return answer == 0 ? told->size : 0;
     return 0;
 }
 

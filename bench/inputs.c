@@ -148,6 +148,30 @@ static struct identity identity_at(uint64_t place) {
     return identity;
 }
 
+/* The identities and kinds of records one after another, no two of them alike. */
+struct series {
+    uint64_t start, step;
+    enum { SYNCS, MIXED, BY_TWOS } kinds;      /* by twos: a Sync and a Delay record of each identity */
+};
+
+static struct series some_series(void) {
+    struct series series;
+    series.start = inputs_below(IDENTITIES);
+    series.step = 2 * inputs_below(IDENTITIES / 2) + 1;
+    series.kinds = once_in(2) ? SYNCS : once_in(2) ? MIXED : BY_TWOS;
+    return series;
+}
+
+static struct identity identity_in(const struct series *series, uint64_t place) {
+    if (series->kinds == BY_TWOS) place /= 2;
+    return identity_at((series->start + series->step * place) % IDENTITIES);
+}
+
+static uint8_t kind_in(const struct series *series, uint64_t place) {
+    if (series->kinds == SYNCS) return 0;
+    return series->kinds == MIXED ? (uint8_t)inputs_below(2) : (uint8_t)(place % 2);
+}
+
 /* Messages. */
 
 static void lay_message(uint8_t *message, size_t size, uint16_t type) {
@@ -201,30 +225,30 @@ static size_t some_message(uint8_t *message) {
 
 /* Tables. Records that could be written as an image, or any. */
 
-static void good_record(struct rtm_slot *slot, uint64_t place) {
-    struct identity identity = identity_at(place % IDENTITIES);
+static void good_record(struct rtm_slot *slot, struct identity identity, uint8_t kind) {
     slot->clock = identity.clock;
     slot->port = identity.port;
     slot->sequence = identity.sequence;
     slot->wait = (uint8_t)(1 + inputs_below(3));
-    slot->kind &= 0xFE;
+    slot->kind = (uint8_t)((slot->kind & 0xFE) | kind);
     slot->residence = inputs_below(UNITS_LIMIT);
 }
 
 static void any_record(struct rtm_slot *slot) {
-    good_record(slot, inputs_below(IDENTITIES));
+    good_record(slot, identity_at(inputs_below(IDENTITIES)), once_in(3));
     slot->wait = once_in(4) ? (uint8_t)any() : (uint8_t)inputs_below(4);
-    if (once_in(3)) slot->kind |= 1;
     slot->residence = some_units();
 }
 
 /* Records in some of the slots; what empty slots hold stays as it was. */
 static unsigned good_records(struct rtm_table *table, unsigned records) {
-    uint64_t start = inputs_below(IDENTITIES), step = 2 * inputs_below(IDENTITIES / 2) + 1;
+    struct series series = some_series();
     unsigned i, left = records;
     for (i = 0; i < 16; i++) {
         table->slot[i].wait = 0;
-        if (inputs_below(16 - i) < left) good_record(&table->slot[i], start + step * left--);
+        if (inputs_below(16 - i) >= left) continue;
+        left--;
+        good_record(&table->slot[i], identity_in(&series, left), kind_in(&series, left));
     }
     return records;
 }
@@ -233,9 +257,9 @@ static void spoil_record(struct rtm_slot *slot, const struct rtm_slot *other) {
     switch (inputs_below(5)) {
     case 0: slot->wait = 4; break;
     case 1: slot->residence = UNITS_LIMIT - inputs_below(2); break;
-    case 2: slot->kind |= 1; break;
+    case 2: slot->kind ^= 1; break;
     case 3: *slot = *other; break;
-    default: slot->kind |= 1; slot->clock = other->clock; slot->port = other->port; break;
+    default: *slot = *other; slot->kind ^= 1; break;
     }
 }
 
@@ -257,10 +281,93 @@ static void some_table(struct rtm_table *table) {
     table->number = once_in(2) ? (uint8_t)records : once_in(2) ? (uint8_t)any() : (uint8_t)inputs_below(19);
 }
 
+static size_t records_in(const struct rtm_table *table) {
+    size_t i, records = 0;
+    for (i = 0; i < 16; i++) records += table->slot[i].wait != 0;
+    return records;
+}
+
 static size_t some_room(size_t wanted) {
     if (once_in(2)) return wanted;
     if (once_in(2)) return inputs_below(101);
     return once_in(2) && wanted > 0 ? wanted - 1 : wanted + inputs_below(20);
+}
+
+/* Images. The new form has an octet more in front, FF, and one in front of each body, its kind. */
+
+struct image {
+    uint8_t *octets;
+    size_t more;                 /* 1 in the new form, 0 in the old */
+    size_t records;
+};
+
+static size_t body_at(const struct image *image, size_t place) {
+    return image->more + 1 + 2 * image->records + (image->more + 21) * place;
+}
+
+static size_t image_size(size_t more, size_t records) {
+    struct image image = {NULL, more, records};
+    return body_at(&image, records);
+}
+
+static uint8_t *offset_of(const struct image *image, size_t place) {
+    return image->octets + image->more + 1 + 2 * place;
+}
+
+/* Of the body at a place, from the clock identity on. */
+static uint8_t *fields_of(const struct image *image, size_t place) {
+    return image->octets + body_at(image, place) + image->more;
+}
+
+static void lay_image(const struct image *image) {
+    struct series series = some_series();
+    size_t k;
+    if (image->more == 0) series.kinds = SYNCS;
+    image->octets[0] = UINT8_MAX;
+    image->octets[image->more] = (uint8_t)image->records;
+    for (k = 0; k < image->records; k++) {
+        struct identity identity = identity_in(&series, k);
+        uint8_t *at = fields_of(image, k);
+        put(offset_of(image, k), 2, body_at(image, k));
+        if (image->more > 0) at[-1] = kind_in(&series, k);
+        put(at, 8, identity.clock);
+        put(at + 8, 2, identity.port);
+        put(at + 10, 2, identity.sequence);
+        put(at + 12, 8, inputs_below(UNITS_LIMIT));
+        at[20] = (uint8_t)(1 + inputs_below(3));
+    }
+}
+
+/* What is of one form: FF one too many, missing or another octet, offsets from behind FF, a kind that is none.
+   Answers the size. */
+static size_t spoil_form(const struct image *image, size_t size) {
+    uint8_t *octets = image->octets;
+    size_t k;
+    switch (image->more == 0 ? 0 : 1 + inputs_below(4)) {
+    case 0: memmove(octets + 1, octets, size); octets[0] = UINT8_MAX; return size + 1;
+    case 1: memmove(octets, octets + 1, size - 1); return size - 1;
+    case 2: octets[0] = (uint8_t)any(); return size;
+    case 3: for (k = 0; k < image->records; k++) put(offset_of(image, k), 2, body_at(image, k) - 1); return size;
+    default: fields_of(image, inputs_below(image->records + 1))[-1] = once_in(2) ? 2 : UINT8_MAX; return size;
+    }
+}
+
+/* One thing that is wrong, or may be. Answers the size. */
+static size_t spoil_image(const struct image *image, size_t size) {
+    size_t k = inputs_below(image->records + 1), other = inputs_below(image->records + 1);
+    uint8_t *at = fields_of(image, k), *from = fields_of(image, other);
+    switch (inputs_below(11)) {
+    case 0: return size + 1;
+    case 1: return size - 1;
+    case 2: image->octets[inputs_below(size)] ^= (uint8_t)(1u << inputs_below(8)); return size;
+    case 3: at[20] = once_in(2) ? 0 : 4; return size;
+    case 4: put(at + 12, 8, UNITS_LIMIT - inputs_below(2)); return size;
+    case 5: memmove(at, from, 12); return size;
+    case 6: memmove(at - image->more, from - image->more, image->more + 12); return size;
+    case 7: image->octets[image->more] = (uint8_t)inputs_below(18); return size;
+    case 8: put(offset_of(image, k), 2, body_at(image, other)); return size;
+    default: return spoil_form(image, size);
+    }
 }
 
 /* Inputs. */
@@ -271,7 +378,7 @@ static void random_input(struct input *input) {
     input->first_size = input->second_size = input->place = 0;
     some_stamps(input);
     some_table(&input->table);
-    input->room = some_room(once_in(2) ? 36 : 1 + 23 * inputs_below(17));
+    input->room = some_room(once_in(2) ? 36 : image_size(1, records_in(&input->table)));
 }
 
 void input_for_message(struct input *input) {
@@ -313,43 +420,17 @@ void input_for_pair(struct input *input) {
     if (once_in(8)) input->second_size = damage(input->second, input->second_size);
 }
 
-static size_t lay_image(uint8_t *image, size_t records) {
-    uint64_t start = inputs_below(IDENTITIES), step = 2 * inputs_below(IDENTITIES / 2) + 1;
-    size_t k, first = 1 + 2 * records;
-    image[0] = (uint8_t)records;
-    for (k = 0; k < records; k++) {
-        struct identity identity = identity_at((start + step * k) % IDENTITIES);
-        uint8_t *at = image + first + 21 * k;
-        put(image + 1 + 2 * k, 2, first + 21 * k);
-        put(at, 8, identity.clock);
-        put(at + 8, 2, identity.port);
-        put(at + 10, 2, identity.sequence);
-        put(at + 12, 8, inputs_below(UNITS_LIMIT));
-        at[20] = (uint8_t)(1 + inputs_below(3));
-    }
-    return first + 21 * records;
-}
-
-static size_t spoil_image(uint8_t *image, size_t size) {
-    size_t records = image[0], k = inputs_below(records + 1), other = inputs_below(records + 1);
-    uint8_t *at = image + 1 + 2 * records;
-    switch (inputs_below(8)) {
-    case 0: return size + 1;
-    case 1: return size - 1;
-    case 2: image[inputs_below(size)] ^= (uint8_t)(1u << inputs_below(8)); return size;
-    case 3: at[21 * k + 20] = once_in(2) ? 0 : 4; return size;
-    case 4: put(at + 21 * k + 12, 8, UNITS_LIMIT - inputs_below(2)); return size;
-    case 5: memmove(at + 21 * k, at + 21 * other, 12); return size;
-    case 6: image[0] = (uint8_t)inputs_below(18); return size;
-    default: put(image + 1 + 2 * k, 2, 1 + 2 * records + 21 * other); return size;
-    }
-}
-
 void input_for_image(struct input *input) {
-    size_t records = inputs_below(18);      /* 17 are one too many */
+    struct image image;
+    size_t size;
     random_input(input);
-    input->first_size = lay_image(input->first, records);
-    if (once_in(2)) input->first_size = spoil_image(input->first, input->first_size);
+    image.octets = input->first;
+    image.more = inputs_below(2);
+    image.records = inputs_below(18);       /* 17 are one too many */
+    lay_image(&image);
+    size = image_size(image.more, image.records);
+    input->first_size = once_in(2) ? spoil_image(&image, size) : size;
+    input->room = some_room(image_size(1 - image.more, image.records));
 }
 
 /* Lists. */

@@ -38,7 +38,7 @@ uint64_t inputs_below(uint64_t limit);
 void input_for_message(struct input *input);   /* a message, stamps, a table and an output */
 void input_for_write(struct input *input);
 void input_for_pair(struct input *input);
-void input_for_image(struct input *input);
+void input_for_image(struct input *input);     /* an image of either form, and an output for the other */
 void input_for_list(struct input *input);
 void input_for_path(struct input *input);      /* hops, a set, a position, a label and an output */
 void input_for_capture(struct input *input);

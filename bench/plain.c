@@ -371,49 +371,44 @@ uint8_t plain_two_step_by_sequence(struct plain_table *table, uint8_t *message, 
 
 /* Images: the number of records, their offsets, then the records */
 
-enum { OFFSET_SIZE = 2, RECORD_SIZE = 21 };
+/* The new form has an octet more in front of the image, which leads it, and one in front of each record, its
+   kind. */
+enum form { OLD_FORM = 0, NEW_FORM = 1 };
+enum { LEAD = 0xFF, OFFSET_SIZE = 2, RECORD_SIZE = 21 };
 enum { AT_CLOCK = 0, AT_PORT = 8, AT_SEQUENCE = 10, AT_RESIDENCE = 12, AT_WAIT = 20 };
 
-static inline size_t record_at(size_t records, size_t place) {
-    return 1 + OFFSET_SIZE * records + RECORD_SIZE * place;
+static inline size_t offset_at(enum form form, size_t place) {
+    return form + 1 + OFFSET_SIZE * place;
+}
+
+static inline size_t record_at(enum form form, size_t records, size_t place) {
+    return offset_at(form, records) + (form + RECORD_SIZE) * place;
 }
 
 static inline bool same_identity(const struct plain_record *a, const struct plain_record *b) {
-    return a->sequence == b->sequence && a->clock == b->clock && a->port == b->port;
+    return a->sequence == b->sequence && a->clock == b->clock && a->port == b->port && a->kind == b->kind;
 }
 
-static bool loadable(const struct plain_record *record, size_t records) {
-    size_t i, j;
-    for (i = 0; i < records; i++) {
-        if (record[i].kind != KIND_SYNC) return false;
-        if (record[i].wait < 1 || record[i].wait > WAIT) return false;
-        if (record[i].residence >= UNITS_LIMIT) return false;
-        for (j = 0; j < i; j++) if (same_identity(&record[i], &record[j])) return false;
-    }
+/* Whether the record at a place can be loaded behind those before it. */
+static inline bool loadable(const struct plain_record *record, size_t place) {
+    const struct plain_record *last = &record[place];
+    if (last->kind > KIND_DELAY || last->wait < 1 || last->wait > WAIT) return false;
+    if (last->residence >= UNITS_LIMIT) return false;
+    for (; record < last; record++) if (same_identity(record, last)) return false;
     return true;
 }
 
-uint8_t plain_write_image(const struct plain_table *table, uint8_t *output, size_t room, size_t *size) {
-    struct plain_record record[PLAIN_SLOTS];
-    size_t records = 0, k;
-    for (k = 0; k < PLAIN_SLOTS; k++) if (table->slot[k].wait != 0) record[records++] = table->slot[k];
-    if (!loadable(record, records)) return RTM_IMAGE;
-    if (room < record_at(records, records)) return RTM_OUTPUT_TOO_SMALL;
-    output[0] = (uint8_t)records;
-    for (k = 0; k < records; k++) {
-        uint8_t *at = output + record_at(records, k);
-        put16(output + 1 + OFFSET_SIZE * k, (uint16_t)record_at(records, k));
-        put64(at + AT_CLOCK, record[k].clock);
-        put16(at + AT_PORT, record[k].port);
-        put16(at + AT_SEQUENCE, record[k].sequence);
-        put64(at + AT_RESIDENCE, record[k].residence);
-        at[AT_WAIT] = record[k].wait;
-    }
-    *size = record_at(records, records);
-    return 0;
+static inline void put_record(enum form form, uint8_t *at, const struct plain_record *record) {
+    if (form == NEW_FORM) *at++ = record->kind;
+    put64(at + AT_CLOCK, record->clock);
+    put16(at + AT_PORT, record->port);
+    put16(at + AT_SEQUENCE, record->sequence);
+    put64(at + AT_RESIDENCE, record->residence);
+    at[AT_WAIT] = record->wait;
 }
 
-static inline void get_record(const uint8_t *at, struct plain_record *record) {
+static inline void get_record(enum form form, const uint8_t *at, struct plain_record *record) {
+    record->kind = form == NEW_FORM ? *at++ : KIND_SYNC;
     record->clock = get64(at + AT_CLOCK);
     record->port = get16(at + AT_PORT);
     record->sequence = get16(at + AT_SEQUENCE);
@@ -421,20 +416,70 @@ static inline void get_record(const uint8_t *at, struct plain_record *record) {
     record->wait = at[AT_WAIT];
 }
 
+static inline uint8_t put_image(enum form form, const struct plain_record *record, size_t records,
+                                uint8_t *output, size_t room, size_t *size) {
+    size_t k;
+    if (room < record_at(form, records, records)) return RTM_OUTPUT_TOO_SMALL;
+    if (form == NEW_FORM) output[0] = LEAD;
+    output[form] = (uint8_t)records;
+    for (k = 0; k < records; k++) {
+        put16(output + offset_at(form, k), (uint16_t)record_at(form, records, k));
+        put_record(form, output + record_at(form, records, k), &record[k]);
+    }
+    *size = record_at(form, records, records);
+    return 0;
+}
+
+/* It tells the records, and how many there are. */
+static inline uint8_t get_image(enum form form, const uint8_t *image, size_t size,
+                                struct plain_record *record, size_t *records) {
+    size_t k;
+    if (size < record_at(form, 0, 0)) return RTM_IMAGE;
+    if (form == NEW_FORM && image[0] != LEAD) return RTM_IMAGE;
+    *records = image[form];
+    if (*records > PLAIN_SLOTS || size != record_at(form, *records, *records)) return RTM_IMAGE;
+    for (k = 0; k < *records; k++) {
+        if (get16(image + offset_at(form, k)) != record_at(form, *records, k)) return RTM_IMAGE;
+        get_record(form, image + record_at(form, *records, k), &record[k]);
+        if (!loadable(record, k)) return RTM_IMAGE;
+    }
+    return 0;
+}
+
+uint8_t plain_write_image(const struct plain_table *table, uint8_t *output, size_t room, size_t *size) {
+    struct plain_record record[PLAIN_SLOTS];
+    size_t records = 0, k;
+    for (k = 0; k < PLAIN_SLOTS; k++) if (table->slot[k].wait != 0) record[records++] = table->slot[k];
+    for (k = 0; k < records; k++) if (!loadable(record, k)) return RTM_IMAGE;
+    return put_image(NEW_FORM, record, records, output, room, size);
+}
+
 uint8_t plain_load_image(struct plain_table *table, const uint8_t *image, size_t size) {
     struct plain_record record[PLAIN_SLOTS] = {{0}};
-    size_t records, k;
-    if (size < 1) return RTM_IMAGE;
-    records = image[0];
-    if (records > PLAIN_SLOTS || size != record_at(records, records)) return RTM_IMAGE;
-    for (k = 0; k < records; k++) {
-        if (get16(image + 1 + OFFSET_SIZE * k) != record_at(records, k)) return RTM_IMAGE;
-        get_record(image + record_at(records, k), &record[k]);
-    }
-    if (!loadable(record, records)) return RTM_IMAGE;
+    bool is_new = size > 0 && image[0] == LEAD;
+    size_t records;
+    uint8_t refusal = get_image(is_new ? NEW_FORM : OLD_FORM, image, size, record, &records);
+    if (refusal) return refusal;
     memcpy(table->slot, record, sizeof record);
     table->number = (uint8_t)records;
     return 0;
+}
+
+uint8_t plain_image_to_new(const uint8_t *image, size_t size, uint8_t *output, size_t room, size_t *written) {
+    struct plain_record record[PLAIN_SLOTS];
+    size_t records;
+    uint8_t refusal = get_image(OLD_FORM, image, size, record, &records);
+    if (refusal) return refusal;
+    return put_image(NEW_FORM, record, records, output, room, written);
+}
+
+uint8_t plain_image_to_old(const uint8_t *image, size_t size, uint8_t *output, size_t room, size_t *written) {
+    struct plain_record record[PLAIN_SLOTS];
+    size_t records, k;
+    uint8_t refusal = get_image(NEW_FORM, image, size, record, &records);
+    if (refusal) return refusal;
+    for (k = 0; k < records; k++) if (record[k].kind == KIND_DELAY) return RTM_DELAY_RECORD;
+    return put_image(OLD_FORM, record, records, output, room, written);
 }
 
 /* Joining */

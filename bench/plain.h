@@ -37,6 +37,8 @@ uint8_t plain_tick(struct plain_table *table);
 uint8_t plain_waiting(const struct plain_table *table);
 uint8_t plain_write_image(const struct plain_table *table, uint8_t *output, size_t room, size_t *size);
 uint8_t plain_load_image(struct plain_table *table, const uint8_t *image, size_t size);
+uint8_t plain_image_to_new(const uint8_t *image, size_t size, uint8_t *output, size_t room, size_t *written);
+uint8_t plain_image_to_old(const uint8_t *image, size_t size, uint8_t *output, size_t room, size_t *written);
 uint8_t plain_join(const uint8_t *sync, size_t sync_size, const uint8_t *follow_up, size_t follow_up_size,
                    struct rtm_joined *joined);
 uint8_t plain_address_count(const uint8_t *list, size_t size, size_t *count);

@@ -39,6 +39,8 @@ CALL(tick, &input.table)
 CALL(waiting, &input.table)
 CALL(write_image, &input.table, input.output, input.room, &input.told.size)
 CALL(load_image, &input.table, input.first, input.first_size)
+CALL(image_to_new, input.first, input.first_size, input.output, input.room, &input.told.size)
+CALL(image_to_old, input.first, input.first_size, input.output, input.room, &input.told.size)
 CALL(join, input.first, input.first_size, input.second, input.second_size, &input.told.joined)
 CALL(address_count, input.first, input.first_size, &input.told.size)
 CALL(address_entry, input.first, input.first_size, input.place, &input.told.part)
@@ -66,6 +68,8 @@ static const struct measured {
     {MEASURED(waiting), input_for_message},
     {MEASURED(write_image), input_for_message},
     {MEASURED(load_image), input_for_image},
+    {MEASURED(image_to_new), input_for_image},
+    {MEASURED(image_to_old), input_for_image},
     {MEASURED(join), input_for_pair},
     {MEASURED(address_count), input_for_list},
     {MEASURED(address_entry), input_for_list},

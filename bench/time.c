@@ -20,9 +20,9 @@ uint64_t bench_pairs(uint8_t *sync, size_t sync_size, uint8_t *follow_up, size_t
 uint64_t bench_pairs_lent(uint8_t *sync, size_t sync_size, uint8_t *follow_up, size_t follow_up_size,
                           uint8_t *output, size_t room, uint64_t count);
 
-/* What the calls are lent. The capture is first, which puts it behind the others in memory: it does not move an
-   output over the end of a page. */
-static uint8_t capture[FIRST_BODY + BODIES * BODY];
+/* What the calls are lent. The capture and the old image are first, which puts them behind the others in
+   memory: they do not move an output over the end of a page. */
+static uint8_t capture[FIRST_BODY + BODIES * BODY], old_image[RTM_OLD_IMAGE_SIZE];
 static struct rtm_report report;
 static uint8_t sync[MESSAGE], clear[MESSAGE], follow_up[MESSAGE];     /* Sync with S set, and with S clear */
 static uint8_t packet[PACKET], output[RTM_LARGEST_MESSAGE], image[RTM_IMAGE_SIZE], list[ENTRIES * ENTRY];
@@ -82,6 +82,7 @@ static void prepare_15(void) {
 static void prepare_16(void) {
     lay_tables(16, 3);
     rtm_write_image(&library_table, image, sizeof image, &size);
+    rtm_image_to_old(image, sizeof image, old_image, sizeof old_image, &size);
 }
 
 /* Of the hops only the last is in the set, which goes from egress to ingress: it stands first there. */
@@ -163,6 +164,8 @@ LOOP(join, 0, join, sync, MESSAGE, follow_up, MESSAGE, &joined)
 LOOP(write, 0, write, &fields, packet, PACKET, output, sizeof output, &size)
 LOOP(write_image, 0, write_image, table, output, sizeof output, &size)
 LOOP(load_image, 0, load_image, table, image, sizeof image)
+LOOP(image_to_new, 0, image_to_new, old_image, sizeof old_image, output, sizeof output, &size)
+LOOP(image_to_old, 0, image_to_old, image, sizeof image, output, sizeof output, &size)
 LOOP(address_count, 0, address_count, list, sizeof list, &size)
 LOOP(next_ttl, 0, next_ttl, hops, sizeof hops, set, sizeof set, 0, &ttl)
 LOOP(write_labels, 0, write_labels, hops, HOPS * IPV4_ENTRY, set, IN_SET * IPV4_ENTRY, 0, LABEL, output,
@@ -261,6 +264,8 @@ static const struct timed rows[] = {
     {"write, packet of 44", prepare, own_write, library_write},
     {"image written, 16 records", prepare_16, own_write_image, library_write_image},
     {"image loaded, 16 records", prepare_16, own_load_image, library_load_image},
+    {"image to the new form, 16 records", prepare_16, own_image_to_new, library_image_to_new},
+    {"image to the old form, 16 records", prepare_16, own_image_to_old, library_image_to_old},
     {"address list counted, 51 entries", prepare, own_address_count, library_address_count},
     {"next TTL, 51 hops, 51 in RTM_SET", prepare_last, own_next_ttl, library_next_ttl},
     {"label entries, 5 hops, 3 in RTM_SET", prepare_few, own_write_labels, library_write_labels},

@@ -73,10 +73,11 @@ static size_t write_message(uint8_t *message, size_t room, uint8_t ptp_type, con
 int main(void) {
     struct rtm_stamp entry_a = {10, 999999000}, exit_a = {11, 500};     /* 1,500 ns in the one-step node */
     struct rtm_stamp entry_b = {20, 0}, exit_b = {20, 200};             /* 200 ns in the two-step node */
-    uint8_t sync[128], follow_up[128], output[RTM_CREATED_SIZE], image[RTM_IMAGE_SIZE];
+    uint8_t sync[128], follow_up[128], output[RTM_CREATED_SIZE];
+    uint8_t image[RTM_IMAGE_SIZE], old_image[RTM_OLD_IMAGE_SIZE];
     struct rtm_table active, standby;
     struct rtm_joined joined;
-    size_t sync_size, follow_up_size, image_size = 0;
+    size_t sync_size, follow_up_size, image_size = 0, old_size = 0;
     uint8_t answer;
 
     sync_size = write_message(sync, sizeof sync, 0, "a packet");
@@ -95,7 +96,9 @@ int main(void) {
     rtm_new(&standby);
     expect(rtm_write_image(&active, image, sizeof image, &image_size), 0);
     expect(rtm_load_image(&standby, image, image_size), 0);
-    printf("%-13s image of %zu octets\n", "switchover", image_size);
+    /* A card with an earlier release would be handed the old form. */
+    expect(rtm_image_to_old(image, image_size, old_image, sizeof old_image, &old_size), 0);
+    printf("%-13s image of %zu octets, %zu in the old form\n", "switchover", image_size, old_size);
     show_table("  standby", &standby, 1);
 
     follow_up_size = write_message(follow_up, sizeof follow_up, 8, "its follow-up");

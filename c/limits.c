@@ -39,6 +39,11 @@ static const uint8_t octets[36] = {
 static const uint8_t hops[16] = {1, 8, 0, 0, 192, 0, 2, 1, 1, 8, 0, 0, 192, 0, 2, 2};
 static const uint8_t set[8] = {1, 8, 0xFF, 0xFF, 192, 0, 2, 2};
 enum { LABEL = 16, LAST_LABEL = 1048575 };
+/* The record of that Sync, 1,500 ns, as an image of each form. */
+static const uint8_t old_image[24] = {
+    1, 0, 3, 1, 2, 3, 4, 5, 6, 7, 8, 0, 9, 1, 2, 0, 0, 0, 0, 5, 0xDC, 0, 0, 3};
+static const uint8_t new_image[26] = {
+    0xFF, 1, 0, 4, 0, 1, 2, 3, 4, 5, 6, 7, 8, 0, 9, 1, 2, 0, 0, 0, 0, 5, 0xDC, 0, 0, 3};
 static const struct rtm_stamp entry = {10, 999999000}, leave = {11, 500}, bad = {11, 1000000000};
 
 static uint8_t *message_of(uint8_t *message, uint8_t flags, uint8_t ptp_type) {
@@ -115,6 +120,10 @@ static void no_octets(void) {
     CHECK(rtm_two_step(&table, message, 36, NULL, 0, RTM_PTP, entry, leave) == RTM_WAITING);
     CHECK(rtm_write_image(&table, NULL, 0, &size) == RTM_OUTPUT_TOO_SMALL);
     CHECK(rtm_load_image(&table, NULL, 0) == RTM_IMAGE && rtm_waiting(&table) == 1);
+    CHECK(rtm_image_to_new(NULL, 0, NULL, 0, &size) == RTM_IMAGE);
+    CHECK(rtm_image_to_old(NULL, 0, NULL, 0, &size) == RTM_IMAGE);
+    CHECK(rtm_image_to_new(old_image, 24, NULL, 0, &size) == RTM_OUTPUT_TOO_SMALL);
+    CHECK(rtm_image_to_old(new_image, 26, NULL, 0, &size) == RTM_OUTPUT_TOO_SMALL && size == 16);
     CHECK(rtm_join(NULL, 0, NULL, 0, &joined) == RTM_TOO_SHORT);
     CHECK(rtm_join(message, 36, NULL, 0, &joined) == RTM_TOO_SHORT);
     CHECK(rtm_address_count(NULL, 0, &size) == 0 && size == 0);
@@ -150,6 +159,8 @@ static void refusals(void) {
     CHECK(STAYED(table) && STAYED(message) && STAYED(output));
     CHECK(rtm_write_image(&table, output, 40, &size) == RTM_IMAGE && STAYED(output) && STAYED(size));
     CHECK(rtm_load_image(&table, message, 36) == RTM_IMAGE && STAYED(table));
+    CHECK(rtm_image_to_new(message, 36, output, 40, &size) == RTM_IMAGE && STAYED(output) && STAYED(size));
+    CHECK(rtm_image_to_old(message, 36, output, 40, &size) == RTM_IMAGE && STAYED(output) && STAYED(size));
     CHECK(rtm_join(octets, 36, message, 36, &joined) == RTM_NOT_RTM && STAYED(joined));
     CHECK(rtm_join(octets, 36, octets, 36, &joined) == RTM_NOT_A_PAIR && STAYED(joined));
     CHECK(rtm_address_count(message, 36, &size) == RTM_BAD_ENTRY && STAYED(size));
@@ -171,6 +182,30 @@ static void refused_messages(void) {
     memcpy(before, message_of(message, 0x80, 8), sizeof before);
     CHECK(rtm_two_step(&table, message, 36, output, 36, RTM_PTP, entry, leave) == RTM_NO_RECORD);
     CHECK(memcmp(message, before, sizeof before) == 0 && STAYED(table) && STAYED(output));
+}
+
+/* Refusals for an image that is to be converted, each where those after it apply too. */
+static void refused_images(void) {
+    uint8_t delay[26], output[40];
+    size_t size;
+    LAY(output), LAY(size);
+    memcpy(delay, new_image, sizeof delay);
+    delay[4] = 1;
+    CHECK(rtm_image_to_new(new_image, 26, output, 25, &size) == RTM_IMAGE);
+    CHECK(rtm_image_to_new(old_image, 23, output, 25, &size) == RTM_IMAGE);
+    CHECK(rtm_image_to_new(old_image, 24, output, 25, &size) == RTM_OUTPUT_TOO_SMALL);
+    CHECK(rtm_image_to_old(old_image, 24, output, 23, &size) == RTM_IMAGE);
+    CHECK(rtm_image_to_old(delay, 25, output, 23, &size) == RTM_IMAGE);
+    CHECK(rtm_image_to_old(delay, 26, output, 0, &size) == RTM_DELAY_RECORD);
+    CHECK(rtm_image_to_old(delay, 26, output, 40, &size) == RTM_DELAY_RECORD);
+    CHECK(rtm_image_to_old(new_image, 26, output, 23, &size) == RTM_OUTPUT_TOO_SMALL);
+    delay[4] = 2;
+    CHECK(rtm_image_to_old(delay, 26, output, 0, &size) == RTM_IMAGE);
+    delay[4] = 1, delay[25] = 4;
+    CHECK(rtm_image_to_old(delay, 26, output, 0, &size) == RTM_IMAGE);
+    delay[25] = 3, delay[0] = 0xFE;
+    CHECK(rtm_image_to_old(delay, 26, output, 0, &size) == RTM_IMAGE);
+    CHECK(STAYED(output) && STAYED(size));
 }
 
 /* Refusals for a path, each where those after it apply too. */
@@ -212,7 +247,7 @@ static void beyond(void) {
     CHECK(rtm_two_step(&table, message, 36, output, sizeof output, RTM_NTP, entry, leave) == RTM_WAITING);
     CHECK(table.number == 16 && STAYED(table.reserved));
     LAY(output);
-    CHECK(rtm_write_image(&table, output, sizeof output, &size) == 0 && size == 24);
+    CHECK(rtm_write_image(&table, output, sizeof output, &size) == 0 && size == 26);
     CHECK(as_it_came(output + size, sizeof output - size));
     CHECK(rtm_load_image(&table, output, size) == 0 && table.number == 1 && STAYED(table.reserved));
     CHECK(rtm_tick(&table) == 0 && rtm_tick(&table) == 0 && rtm_tick(&table) == 1);
@@ -246,6 +281,94 @@ static void put(uint8_t *at, size_t count, size_t number) {
         at[count] = (uint8_t)number;
         number >>= 8;
     }
+}
+
+/* Images at odd addresses, converted there and back. */
+static void converted(void) {
+    uint8_t memory[32], output[32];
+    size_t size = 0;
+    LAY(memory), LAY(output);
+    memcpy(memory + 1, old_image, 24);
+    CHECK(rtm_image_to_new(memory + 1, 24, output + 1, 31, &size) == 0 && size == 26);
+    CHECK(memcmp(output + 1, new_image, 26) == 0 && as_it_came(output, 1) && as_it_came(output + 27, 5));
+    LAY(memory);
+    CHECK(rtm_image_to_old(output + 1, 26, memory + 1, 31, &size) == 0 && size == 24);
+    CHECK(memcmp(memory + 1, old_image, 24) == 0 && as_it_came(memory, 1) && as_it_came(memory + 25, 7));
+    CHECK(memcmp(output + 1, new_image, 26) == 0);
+}
+
+/* The smallest images of both forms, and what is none. */
+static void ends_of_images(void) {
+    static const uint8_t none[] = {0xFF, 0}, seventeen[] = {17};
+    struct rtm_table table;
+    uint8_t output[2];
+    size_t size = 0;
+    LAY(table);
+    CHECK(rtm_load_image(&table, none, 1) == RTM_IMAGE && rtm_load_image(&table, seventeen, 1) == RTM_IMAGE);
+    CHECK(rtm_load_image(&table, new_image + 1, 25) == RTM_IMAGE && STAYED(table));
+    CHECK(rtm_load_image(&table, old_image, 24) == 0 && table.number == 1 && table.slot[0].kind == 0);
+    CHECK(rtm_load_image(&table, none, 2) == 0 && table.number == 0 && table.slot[0].wait == 0);
+    CHECK(rtm_write_image(&table, output, 1, &size) == RTM_OUTPUT_TOO_SMALL && size == 0);
+    CHECK(rtm_write_image(&table, output, 2, &size) == 0 && size == 2 && memcmp(output, none, 2) == 0);
+    CHECK(rtm_image_to_old(none, 2, output, 1, &size) == 0 && size == 1 && output[0] == 0);
+    CHECK(rtm_load_image(&table, output, 1) == 0 && table.number == 0);
+}
+
+/* A table with 16 records: all of Syncs, or every second of a Delay_Req with the sequence of the Sync before. */
+static void fill_table(struct rtm_table *table, bool delays) {
+    uint8_t i, message[36];
+    rtm_new(table);
+    for (i = 0; i < 16; i++) {
+        message_of(message, 0x80, delays ? i % 2 : 0);
+        put(message + 34, 2, delays ? i / 2 : i);
+        CHECK(rtm_two_step(table, message, 36, NULL, 0, RTM_PTP, entry, leave) == RTM_WAITING);
+    }
+}
+
+static bool same_table(const struct rtm_table *a, const struct rtm_table *b) {
+    return memcmp(a, b, sizeof *a) == 0;
+}
+
+/* The largest image, with Delay records. Where one becomes a Sync record its identity stands twice. */
+static void full_with_delays(void) {
+    enum { KIND = 2 + 2 * 16 + 22 };           /* of the second record */
+    uint8_t image[400], output[400];
+    struct rtm_table table, loaded;
+    size_t size;
+    LAY(image), LAY(output), LAY(size);
+    fill_table(&table, true), rtm_new(&loaded);
+    CHECK(rtm_write_image(&table, image, 385, &size) == RTM_OUTPUT_TOO_SMALL && STAYED(image) && STAYED(size));
+    CHECK(rtm_write_image(&table, image, 386, &size) == 0 && size == RTM_IMAGE_SIZE);
+    CHECK(image[KIND] == 1 && as_it_came(image + 386, 14));
+    CHECK(rtm_load_image(&loaded, image, 386) == 0 && same_table(&loaded, &table));
+    LAY(size);
+    CHECK(rtm_image_to_old(image, 386, output, 400, &size) == RTM_DELAY_RECORD);
+    CHECK(rtm_image_to_new(image, 386, output, 400, &size) == RTM_IMAGE);
+    image[KIND] = 0, table.slot[1].kind = 0;
+    CHECK(rtm_load_image(&loaded, image, 386) == RTM_IMAGE);
+    CHECK(rtm_image_to_old(image, 386, output, 400, &size) == RTM_IMAGE);
+    CHECK(rtm_write_image(&table, output, 400, &size) == RTM_IMAGE && STAYED(output) && STAYED(size));
+}
+
+/* The largest images of both forms, converted there and back. */
+static void full_of_syncs(void) {
+    uint8_t image[400], old[400], again[400];
+    struct rtm_table table, loaded;
+    size_t size;
+    LAY(image), LAY(old), LAY(again);
+    fill_table(&table, false), rtm_new(&loaded);
+    CHECK(rtm_write_image(&table, image, 400, &size) == 0 && size == 386 && as_it_came(image + 386, 14));
+    LAY(size);
+    CHECK(rtm_image_to_old(image, 386, old, 368, &size) == RTM_OUTPUT_TOO_SMALL && STAYED(old) && STAYED(size));
+    CHECK(rtm_image_to_old(image, 386, old, 369, &size) == 0 && size == RTM_OLD_IMAGE_SIZE);
+    CHECK(as_it_came(old + 369, 31));
+    LAY(size);
+    CHECK(rtm_image_to_new(old, 369, again, 385, &size) == RTM_OUTPUT_TOO_SMALL);
+    CHECK(STAYED(again) && STAYED(size));
+    CHECK(rtm_image_to_new(old, 369, again, 400, &size) == 0 && size == 386 && memcmp(again, image, 400) == 0);
+    CHECK(rtm_load_image(&loaded, old, 369) == 0 && same_table(&loaded, &table));
+    LAY(again);
+    CHECK(rtm_write_image(&loaded, again, 400, &size) == 0 && size == 386 && memcmp(again, image, 400) == 0);
 }
 
 /* A message with this pad, S set. */
@@ -384,9 +507,14 @@ int main(void) {
     no_octets();
     refusals();
     refused_messages();
+    refused_images();
     refused_paths();
     beyond();
     labels();
+    converted();
+    ends_of_images();
+    full_with_delays();
+    full_of_syncs();
     ends_of_pads();
     ends_of_captures();
     captured();

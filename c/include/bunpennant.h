@@ -9,7 +9,7 @@
  * archive of its own, libbunpennant_replay.a.
  *
  * Answers. A call answers 0, or at a node one of the words RTM_UPDATED to RTM_ADDED. Any other number is
- * that of a refusal, RTM_TOO_SHORT to RTM_CAPTURE: the first that applies, in the order that is
+ * that of a refusal, RTM_TOO_SHORT to RTM_DELAY_RECORD: the first that applies, in the order that is
  * given with each function. A refusal leaves everything that the call was lent exactly as it came. rtm_tick
  * and rtm_waiting answer a count and refuse nothing.
  *
@@ -26,8 +26,8 @@
  *
  * What the library promises back: every content of what it is lent is good input. It allocates nothing, has
  * no global variable, takes no lock, and keeps nothing when it returns. Calls on different memory may run
- * at the same time, from any thread. One call uses at most 512 octets of stack, one on an image 2,048, one
- * on a capture 4,096, and one on an address list 9,216.
+ * at the same time, from any thread. One call uses at most 512 octets of stack, one on an image or on a
+ * capture 4,096, and one on an address list 9,216.
  *
  * Words. A residence is the time that a message spends in a node. The scratch pad, or pad, is the sum of
  * residences that a message carries, in units of 1/65,536 ns: nanoseconds times 65,536. A pad of 2^63-1
@@ -75,18 +75,20 @@ enum {
     RTM_LIST_TOO_LONG = 19,      /* address list over 1,024 octets */
     RTM_BAD_ENTRY = 20,          /* some entry of the list cut short, of unknown type or of wrong length */
     RTM_NO_ENTRY = 21,           /* place or position not below the number of entries */
-    RTM_IMAGE = 22,              /* no image that can be loaded, or a table that gives none */
+    RTM_IMAGE = 22,              /* no image that can be loaded or converted, or a table that gives none */
     RTM_SUB_TLV_LENGTH = 23,     /* writing types 2 to 4: length neither 20 nor 16 */
     RTM_NO_TIMING_NODE = 24,     /* no hop behind the position is in RTM_SET */
     RTM_LABEL = 25,              /* label below 16 or over 1,048,575 */
-    RTM_CAPTURE = 26             /* no capture */
+    RTM_CAPTURE = 26,            /* no capture */
+    RTM_DELAY_RECORD = 27        /* an image with a Delay record, which has no old form */
 };
 
 /* Sizes, in octets. */
 enum {
     RTM_LARGEST_MESSAGE = 2048,  /* the largest message */
     RTM_CREATED_SIZE = 36,       /* the Follow_Up that a two-step node creates */
-    RTM_IMAGE_SIZE = 369,        /* the largest image of a table: 1 and 23 for each of 16 records */
+    RTM_IMAGE_SIZE = 386,        /* the largest image of a table: 2 and 24 for each of 16 records */
+    RTM_OLD_IMAGE_SIZE = 369,    /* the largest of the old form: 1 and 23 for each of 16 records */
     RTM_LABELS_SIZE = 8          /* the two label entries */
 };
 
@@ -228,20 +230,41 @@ uint8_t rtm_waiting(const struct rtm_table *table);
 
 /*
  * Writes the records of `table` at the start of `output`, which has `room` octets, as an image for the card
- * that takes over. Answers 0 and writes to `size` how many octets the image has, 1 and 23 for each record,
- * at most RTM_IMAGE_SIZE; output beyond them stays. Refusals: 22 where a Delay record waits, or for a
- * record that no call could have left (a wait over 3, a residence of 262,144,000,000,000 units or more, an
- * identity that stands twice); then 12. A refusal leaves `output` and `size` as they came.
+ * that takes over. Answers 0 and writes to `size` how many octets the image has, 2 and 24 for each record,
+ * at most RTM_IMAGE_SIZE; output beyond them stays. The image is of the new form, which begins with the
+ * octet FF and has records of both kinds. Earlier releases write and load the old form alone, which begins
+ * with the number of its records, at most 16, and has Sync records only. Refusals: 22 for a record that no
+ * call could have left (a wait over 3, a residence of 262,144,000,000,000 units or more, a kind, port
+ * identity and sequence that stand twice); then 12. A refusal leaves `output` and `size` as they came.
  */
 uint8_t rtm_write_image(const struct rtm_table *table, uint8_t *output, size_t room, size_t *size);
 
 /*
- * Loads `image`, of `size` octets, into `table`. Answers 0: its records are in the slots from 0 on, in its
- * order, the other slots are zeros, and the number is theirs; what the table held is gone, and the reserved
- * octets in front of the slots stay. Refusals: 22 for any octets that rtm_write_image does not write. A
- * refusal leaves the table as it came.
+ * Loads `image`, of `size` octets and of either form, into `table`. Answers 0: its records are in the slots
+ * from 0 on, in its order, the other slots are zeros, and the number is theirs; what the table held is gone,
+ * and the reserved octets in front of the slots stay. Refusals: 22 for any octets that neither
+ * rtm_write_image nor rtm_image_to_old writes. A refusal leaves the table as it came.
  */
 uint8_t rtm_load_image(struct rtm_table *table, const uint8_t *image, size_t size);
+
+/*
+ * Writes an image of the old form, `image` of `size` octets, in the new form at the start of `output`, which
+ * has `room` octets: the same records in the same order. Answers 0 and writes to `written` how many octets
+ * that has, 2 and 24 for each record, at most RTM_IMAGE_SIZE; output beyond them stays. Refusals: 22 for any
+ * octets but an image of the old form that can be loaded, so also for one of the new form; then 12. A
+ * refusal leaves `output` and `written` as they came.
+ */
+uint8_t rtm_image_to_new(const uint8_t *image, size_t size, uint8_t *output, size_t room, size_t *written);
+
+/*
+ * Writes an image of the new form, `image` of `size` octets, in the old form at the start of `output`, which
+ * has `room` octets, for a card with an earlier release: the same records in the same order. Answers 0 and
+ * writes to `written` how many octets that has, 1 and 23 for each record, at most RTM_OLD_IMAGE_SIZE; output
+ * beyond them stays. Refusals: 22 for any octets but an image of the new form that can be loaded, so also
+ * for one of the old form; 27 where a Delay record is in it; 12; in this order. A refusal leaves `output`
+ * and `written` as they came.
+ */
+uint8_t rtm_image_to_old(const uint8_t *image, size_t size, uint8_t *output, size_t room, size_t *written);
 
 /*
  * Joins a Sync with S set, `sync` of `sync_size` octets, and its Follow_Up, `follow_up` of `follow_up_size`

@@ -1,7 +1,7 @@
 // Messages: read, their carried packet found, written.
 use crate::fields;
+use crate::sizes;
 use reader::Reading;
-use refusal::Written;
 ghost use mathlib.Core.Path.{_≡_};
 ghost use Rattle.refusal.specs.Answer.{value, andThen};
 ghost use Rattle.message.specs.Read.{readOf};
@@ -63,11 +63,8 @@ pub extern "C" fn rtm_write(
         ≡ sizedOf (now (size .entry)) (writeOf (fieldsIn (now (fields .entry))) (now (carried .entry)) (now (output .entry)))
         ⌝ }
 {
-    match writer::write(output, fields::fields_in(fields), carried) {
-        Written::Size(n) => {
-            *size = n;
-            0
-        }
-        Written::Refused(n) => n,
-    }
+    sizes::tell(
+        writer::write(output, fields::fields_in(fields), carried),
+        size,
+    )
 }

@@ -1,14 +1,9 @@
-// A lent table: new, after a tick, how many records wait, and its image.
-use refusal::Written;
-use switchover::Loading;
+// A lent table: new, after a tick, and how many records wait.
 ghost use mathlib.Core.Path.{_≡_};
 ghost use Rattle.refusal.specs.Answer.{value};
 ghost use Rattle.records.specs.Number.{readNumber};
-ghost use Rattle.image.specs.Image.{writeOf};
-ghost use Rattle.words.specs.Words.{slotsOf, numberOf};
+ghost use Rattle.words.specs.Words.{numberOf};
 ghost use Rattle.words.specs.Answers.{left, newOn, tickOn};
-ghost use Rattle.table.specs.Table.{loadOn};
-ghost use Rattle.bunpennant.specs.C.{sized, sizedOf, lent, lentOf};
 
 // Makes it a new table: all zeros.
 #[no_mangle]
@@ -32,33 +27,4 @@ pub extern "C" fn rtm_waiting(words: &[u64; 64]) -> u8
     ensures { λ r. ⌜ r ≡ readNumber (numberOf (now (words .entry))) ⌝ }
 {
     lent::waiting(words)
-}
-
-// Writes the table's image: 0 and its size, or refusal 22 or 12, which leaves output and size as they
-// came.
-#[no_mangle]
-pub extern "C" fn rtm_write_image(words: &[u64; 64], output: &mut [u8], size: &mut usize) -> u8
-    ensures { λ r. ⌜
-        sized r (now (output .exit)) (now (size .exit))
-        ≡ sizedOf (now (size .entry)) (writeOf (slotsOf (now (words .entry))) (now (output .entry)))
-        ⌝ }
-{
-    match table::write_image(words, output) {
-        Written::Size(n) => {
-            *size = n;
-            0
-        }
-        Written::Refused(n) => n,
-    }
-}
-
-// Loads an image: 0, or refusal 22, which leaves every word as it came.
-#[no_mangle]
-pub extern "C" fn rtm_load_image(words: &mut [u64; 64], image: &[u8]) -> u8
-    ensures { λ r. ⌜ lent r (now (words .exit)) ≡ lentOf (loadOn (now (image .entry)) (now (words .entry))) ⌝ }
-{
-    match table::load_image(words, image) {
-        Loading::Replaced => 0,
-        Loading::Refused(n) => n,
-    }
 }

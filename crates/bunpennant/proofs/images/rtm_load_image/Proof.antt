@@ -6,8 +6,8 @@ use Rattle.switchover.specs.Answers.{loadingAnswer}
 use Rattle.words.specs.Answers.{left}
 use Rattle.bunpennant.specs.C.{lentOf}
 use borrow.Author.Needs.{needs}
-use Rattle.bunpennant.proofs.tables.rtm_load_image.Statement.{statement}
-use Rattle.bunpennant.proofs.tables.rtm_load_image.Tie as tie
+use Rattle.bunpennant.proofs.images.rtm_load_image.Statement.{statement}
+use Rattle.bunpennant.proofs.images.rtm_load_image.Tie as tie
 
 returns : tie.Need-returns
 returns c =
