@@ -43,7 +43,7 @@ fn exchange() {
     print::end_line();
 }
 
-fn request(table: Table, identity: u16) -> Table {
+pub(crate) fn request(table: Table, identity: u16) -> Table {
     let fields = waits::fields(types::PTP_IPV4, types::DELAY_REQ, identity);
     waits::tell(
         table,
@@ -55,7 +55,7 @@ fn request(table: Table, identity: u16) -> Table {
 }
 
 // A Delay_Resp, whose residence is not looked at.
-fn response(table: Table, identity: u16) -> Table {
+pub(crate) fn response(table: Table, identity: u16) -> Table {
     let fields = waits::fields(types::PTP_IPV4, types::DELAY_RESP, identity);
     waits::tell(
         table,
@@ -66,8 +66,7 @@ fn response(table: Table, identity: u16) -> Table {
     )
 }
 
-// The two kinds share the slots and the ticks and are apart for 13 and 15; no switchover while a
-// Delay record waits.
+// The two kinds share the slots, the ticks and the image, and are apart for 13 and 15.
 fn beside() {
     print::text(b"beside a Sync");
     let a = response(waits::sync(Table::new(), 1), 1);

@@ -1,6 +1,7 @@
 // The table lent as its words, with rubbish in every reserved bit, over several calls: what each call
 // leaves of the words, and that by value it leaves the same.
 use crate::messages;
+use crate::switchovers;
 use crate::waits;
 use message::layout;
 use message::types;
@@ -11,10 +12,6 @@ ghost use Prim.Native.Nat.{_<_, _≤_};
 
 // Rubbish: as word 0 with a number of 0, as a packed word with a wait of 0.
 const RUBBISH: u64 = 0xA5A5_A5A5_A5A5_A500;
-
-// The image of one Sync's record: identity 1, residence 9, wait 3.
-const IMAGE: [u8; 24] =
-    *b"\x01\x00\x03\x00\x00\x00\x00\x00\x00\x00\x01\x00\x01\x00\x01\x00\x00\x00\x00\x00\x00\x00\x09\x03";
 
 // The words with another number, and these three as slot k.
 fn with_slot(
@@ -125,7 +122,12 @@ fn loads() {
     let before = words;
     let one = with_slot([0; 64], 1, 0, 1, 0x0000_0001_0001_0003, 9);
     load(&mut words, b"\x01", before, before);
-    load(&mut words, &IMAGE, with_slot(before, 1, 0, 0, 0, 0), one);
+    load(
+        &mut words,
+        &switchovers::OLD_IMAGE,
+        with_slot(before, 1, 0, 0, 0, 0),
+        one,
+    );
     print::end_line();
 }
 

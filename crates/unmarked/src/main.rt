@@ -10,6 +10,7 @@ mod limits;
 mod messages;
 mod numbers;
 mod paths;
+mod releases;
 mod residences;
 mod switchovers;
 mod waits;
@@ -23,6 +24,7 @@ fn main() {
     lengths::run();
     clocks::run();
     delays::run();
+    releases::run();
     ends::run();
     numbers::run();
     in_words::run();

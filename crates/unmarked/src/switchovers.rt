@@ -8,10 +8,21 @@ use table::Table;
 use table::Written;
 
 // The largest image, of 16 records.
-const LARGEST: usize = 369;
+pub(crate) const LARGEST: usize = 386;
 
+// The image of one Sync's record, as a card with the old release writes it: identity 1, residence 9,
+// wait 3.
+pub(crate) const OLD_IMAGE: [u8; 24] =
+    *b"\x01\x00\x03\x00\x00\x00\x00\x00\x00\x00\x01\x00\x01\x00\x01\x00\x00\x00\x00\x00\x00\x00\x09\x03";
+
+// A Delay record has a mark.
 fn print_slot(slot: Record) {
-    print::number(b" ", slot.sequence as u64);
+    let kind = slot.kind;
+    print::text(b" ");
+    if kind.number() == 1 {
+        print::text(b"d");
+    }
+    print::number(b"", slot.sequence as u64);
     print::number(b":", slot.wait as u64);
 }
 
@@ -77,24 +88,35 @@ fn doubled() {
     print::end_line();
 }
 
-// An image of two bodies, and the same with their offsets, 5 and 26, exchanged: the table that came
+// An image of two bodies, and the same with their offsets, 6 and 28, exchanged: the table that came
 // stays.
 fn exchanged() {
     print::text(b"exchanged offsets");
-    let mut image = [0u8; 47];
+    let mut image = [0u8; 50];
     waits::sync(waits::sync(Table::new(), 1), 2).write(&mut image);
-    octets::put(&mut image, 1, b"\x00\x1A\x00\x05");
+    octets::put(&mut image, 2, b"\x00\x1C\x00\x06");
     let a = load(waits::sync(Table::new(), 3), &image);
     waits::follow_up(a, types::PTP_IPV4, 3);
     print::end_line();
 }
 
-// An image of one body, zeros with this wait.
+// An image of one body in the old form, zeros with this wait.
 fn one_body(wait: u8) {
     print::number(b"image of a wait of ", wait as u64);
     let mut image = [0u8; 24];
     octets::put(&mut image, 0, b"\x01\x00\x03");
     octets::put(&mut image, 23, &[wait]);
+    load(Table::new(), &image);
+    print::end_line();
+}
+
+// An image of one body in the new form, of this kind, and zeros with a wait of 3.
+fn one_kind(kind: u8) {
+    print::number(b"image of a kind of ", kind as u64);
+    let mut image = [0u8; 26];
+    octets::put(&mut image, 0, b"\xFF\x01\x00\x04");
+    octets::put(&mut image, 4, &[kind]);
+    octets::put(&mut image, 25, b"\x03");
     load(Table::new(), &image);
     print::end_line();
 }
@@ -108,4 +130,7 @@ pub(crate) fn run() {
     one_body(1);
     one_body(3);
     one_body(4);
+    one_kind(0);
+    one_kind(1);
+    one_kind(2);
 }

@@ -1,18 +1,23 @@
-// Operations 10, 11 and 19: the image of a table, written and loaded.
+// Operations 10, 11, 19, 24 and 25: the image of a table, written, loaded and converted.
 use crate::format;
 use crate::tables;
 use table::Loading;
 use table::Table;
 use table::Written;
 
-fn write_in(out: &mut [u8], body: &[u8]) {
-    print::text(b"image-write ");
-    match tables::read(body).write(out) {
+fn show(answer: Written, out: &[u8]) {
+    match answer {
         Written::Size(n) => print::number(b"size ", n as u64),
         Written::Refused(n) => print::refused(n),
     }
     ;
     format::hex(b" out ", out);
+}
+
+fn write_in(out: &mut [u8], body: &[u8]) {
+    print::text(b"image-write ");
+    let answer = tables::read(body).write(out);
+    show(answer, out);
 }
 
 pub(crate) fn run_write(body: &[u8]) {
@@ -45,4 +50,24 @@ pub(crate) fn run_replace(body: &[u8]) {
     }
     ;
     tables::show(loaded.table);
+}
+
+fn convert(to_new: bool, image: &[u8], out: &mut [u8]) -> Written {
+    if to_new {
+        print::text(b"image-to-new ");
+        return switchover::to_new(image, out);
+    }
+    print::text(b"image-to-old ");
+    switchover::to_old(image, out)
+}
+
+fn convert_in(out: &mut [u8], to_new: bool, body: &[u8]) {
+    let answer = convert(to_new, format::counted(format::after(body, 2)), out);
+    show(answer, out);
+}
+
+pub(crate) fn run_convert(to_new: bool, body: &[u8]) {
+    let mut out = format::output();
+    let room = octets::read16(body, 0) as usize;
+    convert_in(&mut out[0..room], to_new, body);
 }

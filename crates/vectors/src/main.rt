@@ -42,6 +42,8 @@ fn run(operation: u8, body: &[u8]) {
         21 => labels::run_search(body),
         22 => labels::run_write(body),
         23 => captures::run(body),
+        24 => images::run_convert(true, body),
+        25 => images::run_convert(false, body),
         _ => return,
     }
     print::end_line();
