@@ -20,6 +20,14 @@ use Rattle.image.proofs.Images.{image-taken, image-refused, image-sound
 
 -- ---- what a write leaves
 
+-- an image for which there is room is written
+pub output-taken :
+    (out s : List ℕ) (a : Answer (List ℕ))
+    → a ≡ value s
+    → length s ≤ length out
+    → toOutput out a ≡ record { answer = value (length s); output = s ++ drop (length s) out }
+output-taken out s a e h = ap (toOutput out) e ∙ ap (λ (b : Bool). writeBy out (refuse 12 b (value s))) (le-ltb (length out) (length s) h)
+
 -- a write that tells n leaves its image in the first n octets
 pub writes :
     (out : List ℕ) (n : ℕ) (a : Answer (List ℕ)) → toOutput out a .answer ≡ value n → a ≡ value (take n (toOutput out a .output))
@@ -33,14 +41,6 @@ writes out n (value s) e = go (ltb (length out) (length s)) e
     go true q = absurd (not-both q)
     go false q =
         ap value (sym (take-append-seam s (drop (length s) out)) ∙ ap (λ (k : ℕ). take k (s ++ drop (length s) out)) (same-value q))
-
--- an image for which there is room is written
-pub output-taken :
-    (out s : List ℕ) (a : Answer (List ℕ))
-    → a ≡ value s
-    → length s ≤ length out
-    → toOutput out a ≡ record { answer = value (length s); output = s ++ drop (length s) out }
-output-taken out s a e h = ap (toOutput out) e ∙ ap (λ (b : Bool). writeBy out (refuse 12 b (value s))) (le-ltb (length out) (length s) h)
 
 -- ---- a table written and loaded
 
