@@ -25,7 +25,7 @@ pub const VALUE_SIZE: u8 = 7;
 pub const SUB_TLV: u8 = 8;
 
 // 9, 10: the residence between two stamps; the node calls that take one: at a one-step node those that
-// update, at a two-step node a Sync and a Delay_Req.
+// update, at a two-step node a Sync and a Delay_Req. 10 also the plan of a path, for a hop's residence.
 pub const INVALID_STAMP: u8 = 9;
 
 pub const TOO_LONG_RESIDENCE: u8 = 10;
@@ -77,3 +77,8 @@ pub const CAPTURE: u8 = 26;
 
 // 27: converting an image that holds a Delay record to the old form.
 pub const DELAY_RECORD: u8 = 27;
+
+// 28, 29: the plan of a path, for its number of hops and for a hop's mode.
+pub const TOO_MANY_HOPS: u8 = 28;
+
+pub const MODE: u8 = 29;
