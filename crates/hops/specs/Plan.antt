@@ -1,8 +1,8 @@
 -- The plan of a path, "the pads that a path would show before it is built" (document 02, W-212; refusals 28, 29 and 10).
-use Prim.Native.Nat.{ℕ, _+_}
+use Prim.Native.Nat.{ℕ, _+_, _<_, _≤_}
 use mathlib.Core.Path.{_≡_}
 use mathlib.Core.Bool.{Bool, true, false, cond, not, _||_}
-use mathlib.Core.List.{List, [], _∷_}
+use mathlib.Core.List.{List, [], _∷_, _++_}
 use lib.Dec.{ltb, leb, eqb}
 use lib.IntN.{ℤ, pos}
 use lib.ListN.{length}
@@ -32,6 +32,10 @@ residencesIn m (h ∷ hs) = residenceIn m h + residencesIn m hs
 abbrev pub anyIn : ℕ → List Hop → Bool
 anyIn m [] = false
 anyIn m (h ∷ hs) = eqb (h .mode) m || anyIn m hs
+
+-- "with starting pads and S": the Sync's pad, the Follow_Up's, and S
+abbrev pub startWith : ℤ → ℤ → Bool → Start
+startWith x y s = record { «sync_pad» = x; «follow_up_pad» = y; «two_step» = s }
 
 -- "with S clear its starting pad is not looked at": a Follow_Up that is created starts from 0
 abbrev pub followUpStart : Start → ℤ
@@ -65,6 +69,30 @@ planOf hs s = refuse 28 (ltb 255 (length hs)) (checked hs (value (endOf hs s)))
 abbrev pub plannedAnswer : Planned → Answer End
 plannedAnswer (Shows e) = value e
 plannedAnswer (Refused n) = refused n
+
+-- The refusals from the other side: when each is given, whatever else holds. "28 first"
+abbrev pub TooMany : Type 0
+TooMany = (hs : List Hop) (s : Start) → 255 < length hs → planOf hs s ≡ refused 28
+
+-- "then the first bad hop, its mode before its stay": those before it are good, those behind it are any
+abbrev pub Good : Hop → Type 0
+Good h = (isMode (h .mode) ≡ true) × (h .residence < limit)
+
+abbrev pub AllGood : List Hop → Type 0
+AllGood [] = Unit {0}
+AllGood (h ∷ hs) = Good h × AllGood hs
+
+abbrev pub FirstBad : Type 0
+FirstBad =
+    (before after : List Hop) (h : Hop) (s : Start)
+    → length (before ++ h ∷ after) ≤ 255
+    → AllGood before
+    → (isMode (h .mode) ≡ false → planOf (before ++ h ∷ after) s ≡ refused 29)
+    × (isMode (h .mode) ≡ true → limit ≤ h .residence → planOf (before ++ h ∷ after) s ≡ refused 10)
+
+-- and no other list is refused
+abbrev pub NoneBad : Type 0
+NoneBad = (hs : List Hop) (s : Start) → length hs ≤ 255 → AllGood hs → planOf hs s ≡ value (endOf hs s)
 
 -- "where none exists its pad is 0"
 abbrev pub NoneIsZero : Type 0

@@ -18,7 +18,7 @@ use Rattle.rules.specs.Path.{Stop, Unrefused, Apart, Every, FirstWay, FollowUps
 use Rattle.hops.specs.declared.Hop.{Hop}
 use Rattle.hops.specs.declared.Start.{Start}
 use Rattle.hops.specs.declared.End.{End}
-use Rattle.hops.specs.Plan.{planOf}
+use Rattle.hops.specs.Plan.{startWith, planOf}
 
 -- a node of a path as a hop: its mode, and the residence of the Sync's call there
 abbrev pub modeNumber : Mode → ℕ
@@ -64,10 +64,6 @@ shown {last = last} {second = second} c =
       exists = isThere (c .follow-ups);
     }
 
--- what a plan is made from: the Sync's pad, a pad for the Follow_Up, and S
-abbrev pub startOf : List ℕ → ℤ → Bool → Start
-startOf start handed s = record { «sync_pad» = padOf start; «follow_up_pad» = handed; «two_step» = s }
-
 -- The plan of a path's hops is what the path shows. With S set the Follow_Up's pad handed in is that which it starts with; with S clear it
 -- is any. "up to 255" hops; a path may have none.
 abbrev pub PlanShown : Type 0
@@ -76,7 +72,7 @@ PlanShown =
     → length path ≤ 255
     → (c : Crossed q s start last path first second)
     → (s ≡ true → handed ≡ first)
-    → planOf (map hopAt path) (startOf start handed s) ≡ value (shown c)
+    → planOf (map hopAt path) (startWith (padOf start) handed s) ≡ value (shown c)
 
 -- A path that shows a plan: its nodes are the hops, each with an empty table, and the Sync and, with S set, the Follow_Up start with
 -- the pads handed in.

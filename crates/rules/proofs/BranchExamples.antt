@@ -29,10 +29,10 @@ new = replicate 16 zeros
 
 -- S set: one-step 1,500 ns, two-step 200 ns, two-step 50 ns for a Sync that starts below 0; its Follow_Up, with S clear, starts with
 -- 11 and comes to the third node first, then to the first, then to the second
-abbrev setSync : ℤ → List ℕ
+abbrev pub setSync : ℤ → List ℕ
 setSync pad = octetsOf mine true 0 pad
 
-abbrev itsFollowUp : ℕ → List ℕ
+abbrev pub itsFollowUp : ℕ → List ℕ
 itsFollowUp pad = octetsOf mine false 8 (pos pad)
 
 abbrev syncFirst : Call
@@ -76,29 +76,29 @@ second =
 abbrev third : Stop
 third = record { mode = twoStep; table = new; events = call syncThird ∷ tick ∷ tick ∷ call followUpThird ∷ []; firstPlace = 0; secondPlace = some 3 }
 
-abbrev path : List Stop
+abbrev pub path : List Stop
 path = first ∷ second ∷ third ∷ []
 
-sync-way : FirstWay (setSync (negsuc 4)) path (setSync (pos 98303995))
+pub sync-way : FirstWay (setSync (negsuc 4)) path (setSync (pos 98303995))
 unfolding same holds sound differ
 sync-way =
     FirstWay.cross (visit first 0 syncFirst updated (setSync (pos 98303995)) spare refl refl refl)
     (FirstWay.cross (visit second 1 syncSecond waiting (setSync (pos 98303995)) spare refl refl refl)
     (FirstWay.cross (visit third 0 syncThird waiting (setSync (pos 98303995)) spare refl refl refl) FirstWay.done))
 
-follow-up-way : SecondWay (itsFollowUp 11) (third ∷ first ∷ second ∷ []) (itsFollowUp 16384011)
+pub follow-up-way : SecondWay (itsFollowUp 11) (third ∷ first ∷ second ∷ []) (itsFollowUp 16384011)
 unfolding same holds sound differ
 follow-up-way =
     SecondWay.cross 3 refl (visit third 3 followUpThird added (itsFollowUp 3276811) spare refl refl refl)
     (SecondWay.cross 2 refl (visit first 2 followUpFirst passed (itsFollowUp 3276811) spare refl refl refl)
     (SecondWay.cross 4 refl (visit second 4 followUpSecond added (itsFollowUp 16384011) spare refl refl refl) SecondWay.done))
 
-another-order : List·Permᴰ (third ∷ first ∷ second ∷ []) path
+pub another-order : List·Permᴰ (third ∷ first ∷ second ∷ []) path
 another-order =
     List·Permᴰ·trans (List·Permᴰ·swap {a = third} {b = first} {a′ = first} {b′ = third} refl refl)
     (List·Permᴰ·cons {a = first} {b = first} refl (List·Permᴰ·swap {a = third} {b = second} {a′ = second} {b′ = third} refl refl))
 
-all-apart : Every (Apart mine) path
+pub all-apart : Every (Apart mine) path
 unfolding same holds sound differ
 all-apart = (
   apart mine first refl (λ e. inl refl, (tt, (λ e. inr refl, tt))),
@@ -108,7 +108,7 @@ all-apart = (
   ),
 )
 
-none-refused : Every Unrefused path
+pub none-refused : Every Unrefused path
 unfolding same holds sound differ
 none-refused = (unrefused first refl refl, (unrefused second refl refl, (unrefused third refl refl, tt)))
 
@@ -131,24 +131,24 @@ updatedSecond = handedIn oneStep (aSync false 98304007) (stayed 200)
 abbrev alone : Call → Stop
 alone c = record { mode = oneStep; table = new; events = tick ∷ call c ∷ []; firstPlace = 1; secondPlace = none }
 
-abbrev oneStepPath : List Stop
+abbrev pub oneStepPath : List Stop
 oneStepPath = alone updatedFirst ∷ alone updatedSecond ∷ []
 
-one-step-way : FirstWay (aSync false 7) oneStepPath (aSync false 111411207)
+pub one-step-way : FirstWay (aSync false 7) oneStepPath (aSync false 111411207)
 unfolding same holds sound differ
 one-step-way =
     FirstWay.cross (visit (alone updatedFirst) 1 updatedFirst updated (aSync false 98304007) spare refl refl refl)
     (FirstWay.cross (visit (alone updatedSecond) 1 updatedSecond updated (aSync false 111411207) spare refl refl refl) FirstWay.done)
 
-none-created : FollowUps mine false oneStepPath (pos 0) (pos 0)
+unfoldable pub none-created : FollowUps mine false oneStepPath (pos 0) (pos 0)
 unfolding same holds sound differ
 none-created = never {ns = oneStepPath} ((refl, not-created refl), ((refl, not-created refl), tt))
 
-one-step-apart : Every (Apart mine) oneStepPath
+pub one-step-apart : Every (Apart mine) oneStepPath
 unfolding same holds sound differ
 one-step-apart = (apart mine (alone updatedFirst) refl (tt, (λ e. inl refl, tt)), (apart mine (alone updatedSecond) refl (tt, (λ e. inl refl, tt)), tt))
 
-one-step-unrefused : Every Unrefused oneStepPath
+pub one-step-unrefused : Every Unrefused oneStepPath
 unfolding same holds sound differ
 one-step-unrefused = (unrefused (alone updatedFirst) refl refl, (unrefused (alone updatedSecond) refl refl, tt))
 

@@ -22,7 +22,7 @@ use Rattle.rules.proofs.Samples.{octetsOf, stayed, spare, handedIn, vis
 use Rattle.rules.proofs.PathExample.{mine}
 use Rattle.rules.proofs.DelayExample as delay
 
-abbrev aSync : ℤ → List ℕ
+abbrev pub aSync : ℤ → List ℕ
 aSync pad = octetsOf mine true 0 pad
 
 abbrev aFollowUp : ℤ → List ℕ
@@ -40,13 +40,13 @@ stop m f s =
     record { mode = m; table = replicate 16 zeros; events = call (first m f) ∷ tick ∷ call (second m s) ∷ []; firstPlace = 0; secondPlace = some 2 }
 
 -- the Sync's pad gets to the largest
-abbrev below : ℤ
+abbrev pub below : ℤ
 below = pos (2 ^ 63 - 2)
 
-abbrev one : Stop
+abbrev pub one : Stop
 one = stop oneStep below (pos 0)
 
-one-premises :
+unfoldable pub one-premises :
     Apart mine one × Unrefused one × FirstWay (aSync below) (one ∷ []) (aSync largest) × FollowUps mine true (one ∷ []) (pos 0) (pos 0)
 unfolding same holds
 one-premises = (

@@ -215,7 +215,7 @@ module _ (q : Identity) where
             from-there m w₀ e g (subst (λ (i : Reply). Visit n (n .firstPlace) m i) f y) (subst (λ (i : Reply). FirstWay (i .message) after last) f w₁)
 
   -- no node creates one
-  abbrev Never : Stop → Type 0
+  abbrev pub Never : Stop → Type 0
   Never n = Uncrossed n × (firstAnswer n ≡ some (value created) → ⊥)
 
   created-or-not : (o : Option (Answer Word)) → (o ≡ some (value created) → ⊥) → says created o ≡ false
@@ -227,7 +227,7 @@ module _ (q : Identity) where
   created-or-not (some (value waiting)) h = refl
   created-or-not (some (value added)) h = refl
 
-  never-created : (ns : List Stop) → Every Never ns → someCreated ns ≡ false
+  pub never-created : (ns : List Stop) → Every Never ns → someCreated ns ≡ false
   never-created [] h = refl
   never-created (n ∷ ns) h = rw (created-or-not (firstAnswer n) (h .0 .1)) (never-created ns (h .1))
 

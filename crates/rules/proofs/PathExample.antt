@@ -129,7 +129,7 @@ third =
       secondPlace = some 8;
     }
 
-abbrev path : List Stop
+abbrev pub path : List Stop
 path = first ∷ second ∷ third ∷ []
 
 -- what each node tells and answers
@@ -171,18 +171,18 @@ octets = refl
 abbrev left : List ℕ
 left = aFollowUp 13107200 ++ replicate 4 0
 
-sync-way : FirstWay (aSync false 0) path (aSync true 98304000)
+pub sync-way : FirstWay (aSync false 0) path (aSync true 98304000)
 unfolding same holds sound differ
 sync-way =
     FirstWay.cross (visit first 4 syncFirst updated (aSync false 98304000) spare refl refl refl)
     (FirstWay.cross (visit second 2 syncSecond created (aSync true 98304000) left refl refl refl)
     (FirstWay.cross (visit third 3 syncThird waiting (aSync true 98304000) spare refl refl refl) FirstWay.done))
 
-follow-up-way : SecondWay (aFollowUp 13107200) (third ∷ []) (aFollowUp 16384000)
+pub follow-up-way : SecondWay (aFollowUp 13107200) (third ∷ []) (aFollowUp 16384000)
 unfolding same holds sound differ
 follow-up-way = SecondWay.cross 8 refl (visit third 8 followUpThird added (aFollowUp 16384000) spare refl refl refl) SecondWay.done
 
-follow-ups : FollowUps mine false path (pos 0) (padOf (aFollowUp 16384000))
+unfoldable pub follow-ups : FollowUps mine false path (pos 0) (padOf (aFollowUp 16384000))
 unfolding same holds sound differ
 follow-ups =
     born (first ∷ []) second {r = after created (aSync true 98304000) left} {last = aFollowUp 16384000} (refl, tt) refl refl refl
@@ -194,7 +194,7 @@ third-apart =
     apart mine third refl
     (tt, (other refl, (other refl, (λ e. inl refl, (tt, (tt, (other refl, (tt, (λ e. inr refl, (other refl, (tt, (tt, tt))))))))))))
 
-all-apart : Every (Apart mine) path
+pub all-apart : Every (Apart mine) path
 unfolding same holds sound differ
 all-apart = (
   apart mine first refl (tt, (other refl, (tt, (other refl, (λ e. inl refl, (other refl, (tt, tt))))))),
@@ -204,7 +204,7 @@ all-apart = (
   ),
 )
 
-none-refused : Every Unrefused path
+pub none-refused : Every Unrefused path
 unfolding same holds sound differ
 none-refused = (unrefused first refl refl, (unrefused second refl refl, (unrefused third refl refl, tt)))
 
