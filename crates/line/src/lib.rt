@@ -1,12 +1,17 @@
 // What the programs print: `show` of a message (document 01, Numbers to check against), `show_ttl` of
-// a path (document 02, W-208), `replay` of a capture (W-209); and the programs themselves.
+// a path (document 02, W-208), `replay` of a capture (W-209), `plan` of a path that is to be built
+// (W-212); and the programs themselves.
 mod place;
+mod planning;
 mod program;
 mod replaying;
 mod ttl;
 
 use message::Header;
 use message::SubTlv;
+pub use planning::plan;
+pub use planning::plan_line;
+pub use planning::print_plan;
 pub use program::print;
 pub use program::show;
 use reader::Reading;

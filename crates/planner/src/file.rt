@@ -1,5 +1,5 @@
 // A path in octets, as the programs take it: S, the two pads, the number of hops, and the hops, each a
-// mode and a residence. An octet past the end counts as 0.
+// mode and a residence.
 use crate::plan_array;
 use hops::Hop;
 use hops::MOST;
@@ -9,7 +9,7 @@ ghost use mathlib.Core.Path.{_≡_};
 ghost use Prim.Native.Nat.{_≤_};
 ghost use lib.ListN.{take};
 ghost use Rattle.hops.specs.Plan.{planOf, plannedAnswer};
-ghost use Rattle.planner.specs.File.{hopFrom, hopsFrom, countIn, startIn, planIn};
+ghost use Rattle.planner.specs.File.{startIn, countIn, isPath, hopFrom, hopsFrom, planIn};
 
 const TWO_STEP: usize = 0;
 
@@ -35,11 +35,21 @@ fn start_in(path: &[u8]) -> Start
 }
 
 // How many hops there are.
-pub fn count_in(path: &[u8]) -> usize
+fn count_in(path: &[u8]) -> usize
     ensures { λ r. ⌜ r ≡ countIn (now (path .entry)) ⌝ }
     ensures { λ r. ⌜ r ≤ 65535 ⌝ }
 {
     octets::read16(path, COUNT) as usize
+}
+
+// Whether octets are laid out so: S is 0 or 1, and they end behind the last hop.
+pub fn is_path(path: &[u8]) -> bool
+    ensures { λ r. ⌜ r ≡ isPath (now (path .entry)) ⌝ }
+{
+    if 1 < octets::read8(path, TWO_STEP) {
+        return false;
+    }
+    path.len() == HOPS + count_in(path) * HOP_SIZE
 }
 
 fn hop_from(path: &[u8], at: usize) -> Hop
@@ -69,7 +79,7 @@ fn hops_in(path: &[u8], count: usize) -> [Hop; MOST]
     hops
 }
 
-// The plan of the path.
+// The plan of the path. An octet past the end counts as 0.
 pub fn plan_octets(path: &[u8]) -> Planned
     ensures { λ r. ⌜ plannedAnswer r ≡ planIn (now (path .entry)) ⌝ }
 {

@@ -4,7 +4,7 @@
 mod file;
 mod sums;
 
-pub use file::count_in;
+pub use file::is_path;
 pub use file::plan_octets;
 use hops::Hop;
 use hops::MOST;

@@ -8,6 +8,7 @@ mod joins;
 mod labels;
 mod lists;
 mod one_step;
+mod plans;
 mod read;
 mod requests;
 mod residences;
@@ -44,6 +45,7 @@ fn run(operation: u8, body: &[u8]) {
         23 => captures::run(body),
         24 => images::run_convert(true, body),
         25 => images::run_convert(false, body),
+        26 => plans::run(body),
         _ => return,
     }
     print::end_line();
