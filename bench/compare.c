@@ -52,6 +52,8 @@ CALL(next_ttl, to->first, in->first_size, to->second, in->second_size, in->place
 CALL(write_labels, to->first, in->first_size, to->second, in->second_size, in->place, in->label, to->output,
      in->room)
 CALL(replay, to->first, in->first_size, &to->told->report)
+CALL(plan, (const void *)to->first, in->first_size / sizeof(struct rtm_hop), in->sync_pad, in->follow_up_pad,
+     in->two_step, &to->told->pads)
 
 static uint8_t library_write(struct lent *to, struct rtm_table *table, const struct input *in) {
     (void)table;
@@ -114,6 +116,7 @@ static const struct operation {
     {SAME(next_ttl), input_for_path, 12, "0 19 20 21 24"},
     {SAME(write_labels), input_for_path, 8, "0 19 20 21 24 25 12"},
     {SAME(replay), input_for_capture, 6, "0 26"},
+    {SAME(plan), input_for_plan, 8, "0 28 29 10"},
 };
 enum { OPERATIONS = sizeof operations / sizeof *operations, DISTANCES = 127 };
 
@@ -145,6 +148,7 @@ static void report(const char *what) {
     printf(", %s", input.ntp ? "NTP" : "PTP");
     printf(" stamps %" PRIu32 ".%" PRIu32, input.entry.seconds, input.entry.part);
     printf(" and %" PRIu32 ".%" PRIu32 "\n", input.exit.seconds, input.exit.part);
+    printf("  pads %" PRId64 " and %" PRId64 ", S %d\n", input.sync_pad, input.follow_up_pad, input.two_step);
     show("table", &input.table, sizeof input.table);
     show("places", &input.told, sizeof input.told);
 }

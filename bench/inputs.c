@@ -621,3 +621,27 @@ void input_for_capture(struct input *input) {
     if (bodies > 0 && once_in(3)) input->first_size = spoil_capture(input->first, input->first_size, bodies);
     else if (once_in(32)) input->first_size = inputs_below(4);
 }
+
+/* A hop; its reserved octets are what they were. */
+static void lay_hop(uint8_t *at, uint64_t spoilt) {
+    static const uint64_t ends[] = {0, UNITS_LIMIT - 1}, bad[] = {UNITS_LIMIT, UNITS_LIMIT + 1, UINT64_MAX};
+    struct rtm_hop hop;
+    memcpy(&hop, at, sizeof hop);
+    hop.mode = (uint8_t)(once_in(2) ? RTM_ONE_STEP : RTM_TWO_STEP);
+    hop.residence = once_in(4) ? PICK(ends) : inputs_below(UNITS_LIMIT);
+    if (once_in(spoilt)) hop.mode = once_in(2) ? (uint8_t)(3 * inputs_below(2)) : (uint8_t)any();
+    if (once_in(spoilt)) hop.residence = PICK(bad);
+    memcpy(at, &hop, sizeof hop);
+}
+
+void input_for_plan(struct input *input) {
+    static const size_t ends[] = {0, 1, 254, 255, 256, 258};
+    size_t i, hops = once_in(8) ? PICK(ends) : inputs_below(12);
+    uint64_t spoilt = once_in(2) ? UINT64_C(1) << 40 : 1 + 2 * hops;
+    random_input(input);
+    input->first_size = hops * sizeof(struct rtm_hop);
+    for (i = 0; i < hops; i++) lay_hop(input->first + i * sizeof(struct rtm_hop), spoilt);
+    input->sync_pad = (int64_t)some_pad();
+    input->follow_up_pad = (int64_t)some_pad();
+    input->two_step = once_in(2);
+}

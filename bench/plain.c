@@ -697,3 +697,29 @@ uint8_t plain_replay(const uint8_t *capture, size_t size, struct rtm_report *rep
     *report = found;
     return 0;
 }
+
+/* The plan of a path */
+
+/* A pad and residences, whose sum fits 63 bits. */
+static inline int64_t raised(int64_t pad, uint64_t units) {
+    if (pad >= 0 && units >= (uint64_t)(INT64_MAX - pad)) return INT64_MAX;
+    return pad + (int64_t)units;
+}
+
+uint8_t plain_plan(const struct rtm_hop *hops, size_t count, int64_t sync_pad, int64_t follow_up_pad,
+                   bool two_step, struct rtm_pads *pads) {
+    uint64_t units[2] = {0};
+    bool exists = two_step;
+    size_t i;
+    if (count > RTM_MOST_HOPS) return RTM_TOO_MANY_HOPS;
+    for (i = 0; i < count; i++) {
+        if (hops[i].mode != RTM_ONE_STEP && hops[i].mode != RTM_TWO_STEP) return RTM_MODE;
+        if (hops[i].residence >= UNITS_LIMIT) return RTM_TOO_LONG_RESIDENCE;
+        units[hops[i].mode == RTM_TWO_STEP] += hops[i].residence;
+        exists = exists || hops[i].mode == RTM_TWO_STEP;
+    }
+    pads->sync = raised(sync_pad, units[0]);
+    pads->follow_up = raised(two_step ? follow_up_pad : 0, units[1]);
+    pads->two_step = pads->exists = exists;
+    return 0;
+}

@@ -48,5 +48,7 @@ uint8_t plain_next_ttl(const uint8_t *hops, size_t hops_size, const uint8_t *set
 uint8_t plain_write_labels(const uint8_t *hops, size_t hops_size, const uint8_t *set, size_t set_size,
                            size_t position, uint32_t label, uint8_t *output, size_t room);
 uint8_t plain_replay(const uint8_t *capture, size_t size, struct rtm_report *report);
+uint8_t plain_plan(const struct rtm_hop *hops, size_t count, int64_t sync_pad, int64_t follow_up_pad,
+                   bool two_step, struct rtm_pads *pads);
 
 #endif

@@ -48,6 +48,8 @@ CALL(next_ttl, input.first, input.first_size, input.second, input.second_size, i
 CALL(write_labels, input.first, input.first_size, input.second, input.second_size, input.place, input.label,
      input.output, input.room)
 CALL(replay, input.first, input.first_size, &input.told.report)
+CALL(plan, (const void *)input.first, input.first_size / sizeof(struct rtm_hop), input.sync_pad,
+     input.follow_up_pad, input.two_step, &input.told.pads)
 
 #define MEASURED(name) #name, call_##name, (function *)rtm_##name
 
@@ -76,6 +78,7 @@ static const struct measured {
     {MEASURED(next_ttl), input_for_path},
     {MEASURED(write_labels), input_for_path},
     {MEASURED(replay), input_for_capture},
+    {MEASURED(plan), input_for_plan},
 };
 enum { FUNCTIONS = sizeof measured / sizeof *measured };
 

@@ -24,6 +24,8 @@ uint64_t bench_pairs_lent(uint8_t *sync, size_t sync_size, uint8_t *follow_up, s
    memory: they do not move an output over the end of a page. */
 static uint8_t capture[FIRST_BODY + BODIES * BODY], old_image[RTM_OLD_IMAGE_SIZE];
 static struct rtm_report report;
+static struct rtm_hop path[RTM_MOST_HOPS];
+static struct rtm_pads pads;
 static uint8_t sync[MESSAGE], clear[MESSAGE], follow_up[MESSAGE];     /* Sync with S set, and with S clear */
 static uint8_t packet[PACKET], output[RTM_LARGEST_MESSAGE], image[RTM_IMAGE_SIZE], list[ENTRIES * ENTRY];
 static uint8_t hops[ENTRIES * ENTRY], set[ENTRIES * ENTRY], ttl;
@@ -140,6 +142,16 @@ static void prepare_capture(void) {
     }
 }
 
+/* As many one-step and two-step hops, in no order that a processor foresees. */
+static void prepare_plan(void) {
+    uint32_t i, some = 1;
+    for (i = 0; i < RTM_MOST_HOPS; i++) {
+        some = some * 1664525 + 1013904223;
+        path[i].mode = some >> 31 ? RTM_TWO_STEP : RTM_ONE_STEP;
+        path[i].residence = some;
+    }
+}
+
 /* Loops of one call, for the library and for plain C. They answer how many calls answered otherwise. */
 
 #define LOOP(name, answer, function, ...) \
@@ -171,6 +183,8 @@ LOOP(next_ttl, 0, next_ttl, hops, sizeof hops, set, sizeof set, 0, &ttl)
 LOOP(write_labels, 0, write_labels, hops, HOPS * IPV4_ENTRY, set, IN_SET * IPV4_ENTRY, 0, LABEL, output,
      sizeof output)
 LOOP(replay, 0, replay, capture, sizeof capture, &report)
+LOOP(plan, 0, plan, path, RTM_MOST_HOPS, 0, 0, false, &pads)
+LOOP(short_plan, 0, plan, path, HOPS, 0, 0, false, &pads)
 
 /* S is cleared again before each call. */
 LOOP(created, RTM_CREATED, two_step, table, (clear[20] = 0, clear), MESSAGE, output, sizeof output, RTM_PTP,
@@ -270,6 +284,8 @@ static const struct timed rows[] = {
     {"next TTL, 51 hops, 51 in RTM_SET", prepare_last, own_next_ttl, library_next_ttl},
     {"label entries, 5 hops, 3 in RTM_SET", prepare_few, own_write_labels, library_write_labels},
     {"capture of 256 calls", prepare_capture, own_replay, library_replay},
+    {"plan, 5 hops", prepare_plan, own_short_plan, library_short_plan},
+    {"plan, 255 hops", prepare_plan, own_plan, library_plan},
     {"from Rattle: Sync and Follow_Up, lent", prepare, own_pair, lent_from_rattle},
     {"from Rattle: the same, table by value", prepare, own_pair, by_value},
     {"  where a copy crosses a page", prepare, own_pair, by_value_across},

@@ -76,6 +76,9 @@ static void layout(void) {
     CHECK(offsetof(struct rtm_report, refused) == 40 && offsetof(struct rtm_report, ranged) == 176);
     CHECK(offsetof(struct rtm_report, least) == 184 && offsetof(struct rtm_report, greatest) == 192);
     CHECK(offsetof(struct rtm_report, sum) == 200);
+    CHECK(SIZE_OF(rtm_hop) == 16 && offsetof(struct rtm_hop, residence) == 8);
+    CHECK(SIZE_OF(rtm_pads) == 32 && offsetof(struct rtm_pads, follow_up) == 8);
+    CHECK(offsetof(struct rtm_pads, two_step) == 16 && offsetof(struct rtm_pads, exists) == 24);
 }
 
 /* What each member is, seen from the octets of a message and of a table. */
@@ -501,6 +504,62 @@ static void captured(void) {
     CHECK(memcmp(memory, before, sizeof before) == 0);
 }
 
+static struct rtm_hop hop_of(uint8_t mode, uint64_t residence) {
+    struct rtm_hop hop;
+    LAY(hop);
+    hop.mode = mode;
+    hop.residence = residence;
+    return hop;
+}
+
+static bool are_pads(const struct rtm_pads *pads, int64_t sync, int64_t follow_up, uint64_t exists) {
+    return pads->sync == sync && pads->follow_up == follow_up && pads->two_step == exists &&
+           pads->exists == exists;
+}
+
+/* The plan of document 01's path, with S clear and with S set. What is reserved in a hop is not looked at. */
+static void planned(void) {
+    struct rtm_hop path[3], before[3];
+    struct rtm_pads pads;
+    LAY(pads);
+    path[0] = hop_of(RTM_ONE_STEP, 1500 * 65536);
+    path[1] = hop_of(RTM_TWO_STEP, 200 * 65536);
+    path[2] = hop_of(RTM_TWO_STEP, 50 * 65536);
+    memcpy(before, path, sizeof before);
+    CHECK(rtm_plan(path, 3, 0, INT64_MAX, false, &pads) == 0 && are_pads(&pads, 98304000, 16384000, 1));
+    CHECK(rtm_plan(path, 3, -5, 11, true, &pads) == 0 && are_pads(&pads, 98303995, 16384011, 1));
+    CHECK(rtm_plan(path, 1, 7, 9, false, &pads) == 0 && are_pads(&pads, 98304007, 0, 0));
+    CHECK(memcmp(path, before, sizeof before) == 0);
+    path[1].residence = 0;
+    CHECK(rtm_plan(path, 2, 0, 9, false, &pads) == 0 && are_pads(&pads, 98304000, 0, 1));
+}
+
+/* No hop and the most of them, the longest residence and the largest pad, and what is beyond them. */
+static void ends_of_plans(void) {
+    static struct rtm_hop path[RTM_MOST_HOPS + 1];
+    const uint64_t limit = 262144000000000;
+    struct rtm_pads pads;
+    size_t i;
+    LAY(pads);
+    CHECK(rtm_plan(NULL, 0, 7, 9, false, &pads) == 0 && are_pads(&pads, 7, 0, 0));
+    CHECK(rtm_plan(NULL, 0, INT64_MIN, INT64_MAX, true, &pads) == 0);
+    CHECK(are_pads(&pads, INT64_MIN, INT64_MAX, 1));
+    for (i = 0; i <= RTM_MOST_HOPS; i++) path[i] = hop_of(RTM_TWO_STEP, limit - 1);
+    CHECK(rtm_plan(path, RTM_MOST_HOPS, 0, 0, false, &pads) == 0);
+    CHECK(are_pads(&pads, 0, 255 * (int64_t)(limit - 1), 1));
+    CHECK(rtm_plan(path, 1, 0, INT64_MAX - (int64_t)limit, true, &pads) == 0);
+    CHECK(are_pads(&pads, 0, INT64_MAX - 1, 1));
+    CHECK(rtm_plan(path, 1, 0, INT64_MAX - (int64_t)limit + 1, true, &pads) == 0);
+    CHECK(are_pads(&pads, 0, INT64_MAX, 1));
+    LAY(pads);
+    path[0] = hop_of(3, limit), path[1] = hop_of(RTM_ONE_STEP, limit);
+    CHECK(rtm_plan(path, RTM_MOST_HOPS + 1, 0, 0, false, &pads) == RTM_TOO_MANY_HOPS && STAYED(pads));
+    CHECK(rtm_plan(path, RTM_MOST_HOPS, 0, 0, false, &pads) == RTM_MODE && STAYED(pads));
+    CHECK(rtm_plan(path + 1, RTM_MOST_HOPS, 0, 0, false, &pads) == RTM_TOO_LONG_RESIDENCE && STAYED(pads));
+    path[0] = hop_of(RTM_TWO_STEP, UINT64_MAX), path[1] = hop_of(0, 0);
+    CHECK(rtm_plan(path, 2, 0, 0, true, &pads) == RTM_TOO_LONG_RESIDENCE && STAYED(pads));
+}
+
 int main(void) {
     layout();
     members();
@@ -518,6 +577,8 @@ int main(void) {
     ends_of_pads();
     ends_of_captures();
     captured();
+    planned();
+    ends_of_plans();
     printf("limits: %d checked\n", checked);
     return wrong;
 }

@@ -5,24 +5,26 @@
  * rtm_two_step. A two-step node keeps a table of residences that wait for their message, and calls rtm_tick
  * once a second. At the egress rtm_join gives the total of a Sync and its Follow_Up. rtm_write_labels gives
  * the label entries that take a message to the next timing node of its path. All these are in the archive
- * libbunpennant.a. For support, rtm_replay runs a capture of node calls again and reports on them; it has an
- * archive of its own, libbunpennant_replay.a.
+ * libbunpennant.a. For support, rtm_replay runs a capture of node calls again and reports on them; for
+ * planners, rtm_plan gives the pads that a path would show before it is built. Each of these two has an
+ * archive of its own, libbunpennant_replay.a and libbunpennant_plan.a.
  *
  * Answers. A call answers 0, or at a node one of the words RTM_UPDATED to RTM_ADDED. Any other number is
- * that of a refusal, RTM_TOO_SHORT to RTM_DELAY_RECORD: the first that applies, in the order that is
- * given with each function. A refusal leaves everything that the call was lent exactly as it came. rtm_tick
- * and rtm_waiting answer a count and refuse nothing.
+ * that of a refusal, RTM_TOO_SHORT to RTM_MODE: the first that applies, in the order that is given with each
+ * function. A refusal leaves everything that the call was lent exactly as it came. rtm_tick and rtm_waiting
+ * answer a count and refuse nothing.
  *
  * What the proofs assume of the caller:
  *   - The machine is x86-64 Linux with the System V calling convention.
  *   - A pointer is valid for as many octets as its length or its type says. Until the call returns nothing
  *     else changes these octets, or reads those that the call may write.
  *   - What one call is lent does not overlap.
- *   - Tables, fields, parts, joined pairs, reports and places for a number of 8 octets are 8-aligned, as C
- *     aligns them. Messages, outputs, images, lists, captures and the place for a TTL may lie at any address.
- *   - The argument ntp holds 0 or 1, as any bool of C does.
- * NULL with a length of 0 is a message, packet, output, image, list or capture of no octets. Nothing is read or
- * written through it. No other pointer may be NULL.
+ *   - Tables, fields, parts, joined pairs, reports, hops, pads and places for a number of 8 octets are
+ *     8-aligned, as C aligns them. Messages, outputs, images, lists, captures and the place for a TTL may lie
+ *     at any address.
+ *   - The arguments ntp and two_step hold 0 or 1, as any bool of C does.
+ * NULL with a length of 0 is a message, packet, output, image, list or capture of no octets, or a path of no
+ * hops. Nothing is read or written through it. No other pointer may be NULL.
  *
  * What the library promises back: every content of what it is lent is good input. It allocates nothing, has
  * no global variable, takes no lock, and keeps nothing when it returns. Calls on different memory may run
@@ -63,7 +65,7 @@ enum {
     RTM_VALUE_SIZE = 7,          /* type 1 with a Value, or types 2 to 4 with under 20 octets of it */
     RTM_SUB_TLV = 8,             /* sub-TLV type not 1, or the length that it states neither 20 nor 16 */
     RTM_INVALID_STAMP = 9,       /* nanoseconds of a PTP stamp over 999,999,999 */
-    RTM_TOO_LONG_RESIDENCE = 10, /* residence over 3,999,999,999 ns; NTP: 4 seconds or more */
+    RTM_TOO_LONG_RESIDENCE = 10, /* residence over 3,999,999,999 ns; NTP, and in a plan: 4 seconds or more */
     RTM_SUM_OUT_OF_RANGE = 11,   /* joining: the sum of the two pads is below -2^63; never at a node */
     RTM_OUTPUT_TOO_SMALL = 12,   /* what is to be written does not fit the output */
     RTM_ALREADY_WAITING = 13,    /* a record of this kind, port identity and sequence waits */
@@ -80,7 +82,9 @@ enum {
     RTM_NO_TIMING_NODE = 24,     /* no hop behind the position is in RTM_SET */
     RTM_LABEL = 25,              /* label below 16 or over 1,048,575 */
     RTM_CAPTURE = 26,            /* no capture */
-    RTM_DELAY_RECORD = 27        /* an image with a Delay record, which has no old form */
+    RTM_DELAY_RECORD = 27,       /* an image with a Delay record, which has no old form */
+    RTM_TOO_MANY_HOPS = 28,      /* a plan of over 255 hops */
+    RTM_MODE = 29                /* a hop's mode neither one-step nor two-step */
 };
 
 /* Sizes, in octets. */
@@ -341,6 +345,34 @@ struct rtm_report {
  */
 uint8_t rtm_replay(const uint8_t *capture, size_t size, struct rtm_report *report);
 
+/* A hop of a path that is planned. */
+enum { RTM_ONE_STEP = 1, RTM_TWO_STEP = 2, RTM_MOST_HOPS = 255 };
+struct rtm_hop {
+    uint8_t mode;                /* RTM_ONE_STEP or RTM_TWO_STEP */
+    uint8_t reserved[7];         /* never looked at */
+    uint64_t residence;          /* of the Sync there, in pad units */
+};
+
+/* What the path shows at its end. */
+struct rtm_pads {
+    int64_t sync;                /* the Sync's pad; 2^63-1: too big */
+    int64_t follow_up;           /* the Follow_Up's, likewise; 0 where there is no Follow_Up */
+    uint64_t two_step;           /* S of the Sync, 0 or 1 */
+    uint64_t exists;             /* 1 where there is a Follow_Up, 0 where there is none */
+};
+
+/*
+ * Plans a path: `hops` are its `count` nodes in the Sync's order, `sync_pad` is the Sync's pad at the start,
+ * `two_step` its S, and `follow_up_pad` the pad of its Follow_Up, which is not looked at where S is clear:
+ * then there is no Follow_Up until the first two-step hop creates one, with pad 0. Residences of one-step
+ * hops go on the Sync's pad, those of two-step hops on the Follow_Up's; a sum of 2^63-1 or more is 2^63-1.
+ * Answers 0 and writes every member of `pads`: what node calls on the two leave over such a path, where none
+ * of them is refused. Refusals: 28 for over RTM_MOST_HOPS hops; then for the first bad hop 29 for its mode,
+ * 10 for a residence of 262,144,000,000,000 units or more. A refusal leaves `pads` as it came.
+ */
+uint8_t rtm_plan(const struct rtm_hop *hops, size_t count, int64_t sync_pad, int64_t follow_up_pad,
+                 bool two_step, struct rtm_pads *pads);
+
 /* A compiler that lays these out in another way stops here. */
 typedef char rtm_size_has_8_octets[sizeof(size_t) == 8 ? 1 : -1];
 typedef char rtm_bool_has_1_octet[sizeof(bool) == 1 ? 1 : -1];
@@ -351,6 +383,8 @@ typedef char rtm_joined_has_32_octets[sizeof(struct rtm_joined) == 32 ? 1 : -1];
 typedef char rtm_slot_has_24_octets[sizeof(struct rtm_slot) == 24 ? 1 : -1];
 typedef char rtm_table_has_512_octets[sizeof(struct rtm_table) == 512 ? 1 : -1];
 typedef char rtm_report_has_208_octets[sizeof(struct rtm_report) == 208 ? 1 : -1];
+typedef char rtm_hop_has_16_octets[sizeof(struct rtm_hop) == 16 ? 1 : -1];
+typedef char rtm_pads_has_32_octets[sizeof(struct rtm_pads) == 32 ? 1 : -1];
 
 #ifdef __cplusplus
 }
