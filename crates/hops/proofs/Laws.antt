@@ -1,48 +1,49 @@
--- Laws of the plan: which lists are refused, and with what; the pad of a Follow_Up that is not there; a sum held at each hop or once.
+-- Which lists of hops are refused, and with what: the first bad hop's number, and no other list's.
 -- Assumes nothing.
-use Prim.Native.Nat.{ℕ, _+_, _≤_}
+use Prim.Native.Nat.{_≤_}
 use mathlib.Core.Path.{_≡_, refl, sym, ap, _∙_}
-use mathlib.Core.Bool.{Bool, true, false, cond, not, _||_, true≢false}
+use mathlib.Core.Bool.{Bool, true, false}
 use mathlib.Core.List.{List, [], _∷_, _++_}
-use native.Mathlib.Omega.{arith}
-use borrow.Author.Tests.{not-false, lt-ltb, le-ltb, ltb-false, le-leb, lt-leb, leb-false}
-use lib.Dec.{ltb, leb, eqb}
-use lib.IntN.{ℤ, pos}
+use borrow.Author.Tests.{lt-ltb, le-ltb, ltb-false, le-leb, lt-leb, leb-true, leb-false}
+use lib.Dec.{ltb, leb}
 use lib.ListN.{length}
-use mir.Syntax.{w64}
-use mir.Val.{SFits, ofZ}
-use mir.ValLaws.{toZ-ofZ}
-use Rattle.refusal.specs.Answer.{Answer, value, refused, refuse}
-use Rattle.refusal.proofs.Answers.{same-value, passes}
+use Rattle.refusal.specs.Answer.{Answer, value, refused}
+use Rattle.refusal.proofs.Answers.{not-both, same-value, passes}
 use Rattle.residence.specs.Residence.{limit}
-use Rattle.scratch_pad.specs.Sum.{raised}
-use Rattle.scratch_pad.proofs.Whole.{inRange}
-use Rattle.scratch_pad.proofs.Held.{raised-none, raised-more, raised-range, read-range}
 use Rattle.hops.specs.declared.Hop.{Hop}
 use Rattle.hops.specs.declared.Start.{Start}
 use Rattle.hops.specs.declared.End.{End}
-use Rattle.hops.specs.Plan.{isMode, residenceIn, residencesIn, anyIn, endOf, checked, planOf, TooMany, AllGood, FirstBad, NoneBad, NoneIsZero, raisedAtEach, HeldOnce}
+use Rattle.hops.specs.Plan.{isMode, endOf, checked, planOf, TooMany, Good, AllGood, FirstBad, NoneBad}
 
--- ---- what is refused, and what is not
+-- the first hop, where it is bad: its mode before its residence
+bad-mode : {A : Type 0} (h : Hop) (hs : List Hop) (next : Answer A) → isMode (h .mode) ≡ false → checked (h ∷ hs) next ≡ refused 29
+bad-mode h hs next m = rw m
+
+bad-residence :
+    {A : Type 0} (h : Hop) (hs : List Hop) (next : Answer A) → isMode (h .mode) ≡ true → limit ≤ h .residence → checked (h ∷ hs) next ≡ refused 10
+bad-residence h hs next m l = rw (m, le-leb limit (h .residence) l)
 
 -- good hops let through what follows them
-pub passed-by : {A : Type 0} (hs : List Hop) (next : Answer A) → AllGood hs → checked hs next ≡ next
+passed-by : {A : Type 0} (hs : List Hop) (next : Answer A) → AllGood hs → checked hs next ≡ next
 passed-by [] next g = refl
 passed-by (h ∷ hs) next g = rw (g .0 .0, lt-leb limit (h .residence) (g .0 .1)) (passed-by hs next (g .1))
 
 -- and what was let through met good hops alone
-pub let-through : {A : Type 0} (hs : List Hop) (next : Answer A) (a : A) → checked hs next ≡ value a → AllGood hs
+let-through : {A : Type 0} (hs : List Hop) (next : Answer A) (a : A) → checked hs next ≡ value a → AllGood hs
 let-through [] next a e = tt
-let-through (h ∷ hs) next a e =
-    let x = passes 29 (not (isMode (h .mode))) (refuse 10 (leb limit (h .residence)) (checked hs next)) a e in
-    let y = passes 10 (leb limit (h .residence)) (checked hs next) a (x .1) in
-    ((not-false (isMode (h .mode)) (x .0), leb-false limit (h .residence) (y .0)), let-through hs next a (y .1))
+let-through (h ∷ hs) next a e = go (isMode (h .mode)) refl (leb limit (h .residence)) refl (λ f. let-through hs next a f)
+  where
+    go :
+        (m : Bool) → isMode (h .mode) ≡ m → (l : Bool) → leb limit (h .residence) ≡ l → (checked hs next ≡ value a → AllGood hs)
+        → Good h × AllGood hs
+    go false p l q on = absurd (not-both (sym (bad-mode h hs next p) ∙ e))
+    go true p true q on = absurd (not-both (sym (bad-residence h hs next p (leb-true limit (h .residence) q)) ∙ e))
+    go true p false q on = ((p, leb-false limit (h .residence) q), on (rw (p, q) at e))
 
 -- a list in two parts
 checked-parts : {A : Type 0} (before after : List Hop) (next : Answer A) → checked (before ++ after) next ≡ checked before (checked after next)
 checked-parts [] after next = refl
-checked-parts {A} (h ∷ before) after next =
-    ap (λ (a : Answer A). refuse 29 (not (isMode (h .mode))) (refuse 10 (leb limit (h .residence)) a)) (checked-parts before after next)
+checked-parts (h ∷ before) after next = ap (checked (h ∷ [])) (checked-parts before after next)
 
 within : (hs : List Hop) (s : Start) → length hs ≤ 255 → planOf hs s ≡ checked hs (value (endOf hs s))
 within hs s l = rw (le-ltb 255 (length hs) l)
@@ -55,10 +56,8 @@ first-bad before after h s l g =
     let hs = before ++ h ∷ after in
     let next = value (endOf hs s) in
     let here : planOf hs s ≡ checked (h ∷ after) next =
-    within hs s l ∙ checked-parts before (h ∷ after) next ∙ passed-by before (checked (h ∷ after) next) g in (
-      λ m. here ∙ rw m,
-      λ m r. here ∙ rw (m, le-leb limit (h .residence) r),
-    )
+    within hs s l ∙ checked-parts before (h ∷ after) next ∙ passed-by before (checked (h ∷ after) next) g in
+    (λ m. here ∙ bad-mode h after next m, λ m r. here ∙ bad-residence h after next m r)
 
 pub none-bad : NoneBad
 none-bad hs s l g = within hs s l ∙ passed-by hs (value (endOf hs s)) g
@@ -70,34 +69,3 @@ plan-value hs s e p =
     let l = ltb-false 255 (length hs) (x .0) in
     let g = let-through hs (value (endOf hs s)) e (x .1) in
     (l, g, same-value (sym (none-bad hs s l g) ∙ p))
-
--- ---- the pads
-
--- without a hop of a mode there is no residence of it
-none-in : (m : ℕ) (hs : List Hop) → anyIn m hs ≡ false → residencesIn m hs ≡ 0
-none-in m [] e = refl
-none-in m (h ∷ hs) e = go (eqb (h .mode) m) e (λ f. none-in m hs f)
-  where
-    go : (b : Bool) → b || anyIn m hs ≡ false → (anyIn m hs ≡ false → residencesIn m hs ≡ 0) → cond b (h .residence) 0 + residencesIn m hs ≡ 0
-    go true f on = absurd (true≢false f)
-    go false f on = omega (arith, on f)
-
-pub none-is-zero : NoneIsZero
-none-is-zero hs s e p f =
-    let x = plan-value hs s e p .2 in
-    sym (ap (λ (y : End). y .«follow_up_pad») x) ∙ go (s .«two_step») (ap (λ (y : End). y .exists) x ∙ f)
-  where
-    go : (b : Bool) → b || anyIn 2 hs ≡ false → raised (cond b (s .«follow_up_pad») (pos 0)) (residencesIn 2 hs) ≡ pos 0
-    go true g = absurd (true≢false g)
-    go false g = ap (raised (pos 0)) (none-in 2 hs g)
-
-pub fits-range : (z : ℤ) → SFits w64 z → inRange z ≡ true
-fits-range z f = ap inRange (sym (toZ-ofZ w64 z f)) ∙ read-range (ofZ w64 z)
-
-pub held-once : HeldOnce
-held-once m z hs f = go hs z (fits-range z f)
-  where
-    go : (hs : List Hop) (z : ℤ) → inRange z ≡ true → raisedAtEach m z hs ≡ raised z (residencesIn m hs)
-    go [] z r = sym (raised-none z r)
-    go (h ∷ hs) z r =
-        go hs (raised z (residenceIn m h)) (raised-range z (residenceIn m h) r) ∙ raised-more z (residenceIn m h) (residencesIn m hs)

@@ -1,4 +1,5 @@
 pub mod Laws
 pub mod Plans
+pub mod Raised
 pub mod Paths
 pub mod PlanExamples

@@ -37,8 +37,9 @@ use Rattle.hops.specs.declared.Start.{Start}
 use Rattle.hops.specs.declared.End.{End}
 use Rattle.hops.specs.Plan.{isMode, startWith, planOf, Good, AllGood}
 use Rattle.hops.specs.Shown.{modeNumber, hopAt, Crossed, ShownBy, EveryPlanShown}
-use Rattle.hops.proofs.Laws.{plan-value, fits-range}
+use Rattle.hops.proofs.Laws.{plan-value}
 use Rattle.hops.proofs.Plans.{plan-shown}
+use Rattle.hops.proofs.Raised.{fits-range}
 
 -- ---- a node of the path
 

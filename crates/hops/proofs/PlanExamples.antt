@@ -24,8 +24,9 @@ use Rattle.hops.specs.declared.Start.{Start}
 use Rattle.hops.specs.declared.End.{End}
 use Rattle.hops.specs.Plan.{startWith, endOf, planOf, raisedAtEach}
 use Rattle.hops.specs.Shown.{hopAt, Crossed, ShownBy}
-use Rattle.hops.proofs.Laws.{too-many, first-bad, none-bad, none-is-zero, held-once}
+use Rattle.hops.proofs.Laws.{too-many, first-bad, none-bad}
 use Rattle.hops.proofs.Plans.{plan-shown}
+use Rattle.hops.proofs.Raised.{none-is-zero, held-once}
 use Rattle.hops.proofs.Paths.{every-plan-shown}
 
 abbrev hop : ℕ → ℕ → Hop
