@@ -14,7 +14,7 @@ use Rattle.residence.specs.Residence.{limit}
 use Rattle.hops.specs.declared.Hop.{Hop}
 use Rattle.hops.specs.Plan.{isMode}
 use Rattle.planner.specs.declared.sums.Sums.{Sums}
-use Rattle.planner.specs.Sums.{Small, refused, counted, openedOf, stepOf}
+use Rattle.planner.specs.Sums.{Small, refused, counted, openedOf, walkedOf, stepOf}
 
 -- a fold over the first elements of a list
 module _ {A B : Type 0} (f : B → A → B) where
@@ -80,3 +80,10 @@ sums-small hs i = go (ltb 255 (length hs)) refl
         let b = bounded (take i hs) (refused 0) in
         let l = ltb-false 255 (length hs) e in
         (omega (arith, b .0, length-take i hs, l), omega (arith, b .1, length-take i hs, l))
+
+pub walked-most : (n : ℕ) → walkedOf n ≤ n
+walked-most n = go (ltb 255 n)
+  where
+    go : (b : Bool) → cond b 0 n ≤ n
+    go true = omega arith
+    go false = omega arith

@@ -15,8 +15,8 @@ use Rattle.hops.specs.declared.Start.{Start}
 use Rattle.hops.specs.declared.End.{End}
 use Rattle.hops.specs.Plan.{isMode, residenceIn, residencesIn, anyIn, endOf, checked, planOf}
 use Rattle.planner.specs.declared.sums.Sums.{Sums}
-use Rattle.planner.specs.Sums.{refused, going, counted, openedOf, stepOf, endBy, closedOf}
-use Rattle.planner.proofs.Fold.{stays-refused}
+use Rattle.planner.specs.Sums.{refused, going, counted, openedOf, walkedOf, stepOf, endBy, closedOf}
+use Rattle.planner.proofs.Fold.{fold-all, sumsAt, stays-refused}
 
 or-false : (b : Bool) → b ≡ b || false
 or-false true = refl
@@ -54,7 +54,7 @@ module _ (start : Start) where
           ih (a + residenceIn 1 h) (b + residenceIn 2 h) (c || eqb (h .mode) 2)
           ∙ (λ i. checked hs (value (endBy (p i) (q i) (or-assoc c (eqb (h .mode) 2) (anyIn 2 hs) i) start)))
 
-  pub plan-is : (hs : List Hop) → closing (foldl stepOf (openedOf (length hs)) hs) ≡ planOf hs start
+  plan-is : (hs : List Hop) → closing (foldl stepOf (openedOf (length hs)) hs) ≡ planOf hs start
   plan-is hs = go (ltb 255 (length hs))
     where
       go : (t : Bool) → closing (foldl stepOf (cond t (refused 28) (refused 0)) hs) ≡ refuse 28 t (checked hs (value (endOf hs start)))
@@ -62,3 +62,11 @@ module _ (start : Start) where
       go false =
           from-good hs 0 0 false
           ∙ (λ i. checked hs (value (endBy (zero-add (residencesIn 1 hs) i) (zero-add (residencesIn 2 hs) i) (anyIn 2 hs) start)))
+
+  -- and so are the sums of the hops that are walked
+  pub walked-is : (hs : List Hop) → closing (sumsAt hs (walkedOf (length hs))) ≡ planOf hs start
+  walked-is hs = go (ltb 255 (length hs)) refl
+    where
+      go : (t : Bool) → ltb 255 (length hs) ≡ t → closing (sumsAt hs (cond t 0 (length hs))) ≡ planOf hs start
+      go true e = rw e
+      go false e = ap closing (fold-all stepOf (openedOf (length hs)) hs) ∙ plan-is hs

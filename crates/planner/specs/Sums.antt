@@ -24,7 +24,11 @@ abbrev pub going : ℕ → ℕ → Bool → Sums
 going a b c = record { refusal = 0; «one_step» = a; «two_step» = b; creates = c }
 
 abbrev pub openedOf : ℕ → Sums
-openedOf n = cond (ltb 255 n) (refused 28) (refused 0)
+openedOf n = cond (ltb 255 n) (refused 28) (going 0 0 false)
+
+-- too many hops are refused with no look at any
+abbrev pub walkedOf : ℕ → ℕ
+walkedOf n = cond (ltb 255 n) 0 n
 
 abbrev pub hopOf : ℕ → ℕ → Hop
 hopOf mode u = record { mode = mode; residence = u }

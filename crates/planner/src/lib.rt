@@ -16,13 +16,15 @@ ghost use lib.ListN.{take};
 ghost use Rattle.hops.specs.Plan.{planOf, plannedAnswer};
 ghost use Rattle.planner.specs.Sums.{planFirst};
 
-// The plan of a path with these hops, or refusal 28, 29 or 10.
+// The plan of a path with these hops, in the Sync's order; or refusal 28, or 29 or 10 of the first bad
+// hop.
 pub fn plan(hops: &[Hop], start: Start) -> Planned
     ensures { λ r. ⌜ plannedAnswer r ≡ planOf (now (hops .entry)) start ⌝ }
 {
     let mut sums = sums::opened(hops.len());
+    let count = sums::walked(hops.len());
     let mut i = 0;
-    while i < hops.len() {
+    while i < count {
         let hop = hops[i];
         sums = sums::step(sums, hop.mode, hop.residence);
         i += 1;

@@ -7,10 +7,10 @@ use hops::Start;
 use hops::TWO_STEP;
 use residence::LIMIT;
 ghost use mathlib.Core.Path.{_≡_};
-ghost use mathlib.Core.Bool.{_||_};
+ghost use mathlib.Core.Bool.{false, _||_};
 ghost use Prim.Native.Nat.{_≤_};
 ghost use Rattle.hops.specs.Plan.{isMode, residenceIn, followUpStart, plannedAnswer};
-ghost use Rattle.planner.specs.Sums.{Small, refused as refused·spec, openedOf, hopOf, stepOf, closedOf};
+ghost use Rattle.planner.specs.Sums.{Small, refused as refused·spec, going, openedOf, walkedOf, hopOf, stepOf, closedOf};
 
 // Of the hops so far: the refusal of the first bad one, or 0; the residences by mode; whether any was
 // two-step.
@@ -19,6 +19,18 @@ pub(crate) struct Sums {
     one_step: u64,
     two_step: u64,
     creates: bool,
+}
+
+// Of no hops.
+fn none() -> Sums
+    ensures { λ r. ⌜ r ≡ going 0 0 false ⌝ }
+{
+    Sums {
+        refusal: 0,
+        one_step: 0,
+        two_step: 0,
+        creates: false,
+    }
 }
 
 fn refused(n: u8) -> Sums
@@ -32,13 +44,24 @@ fn refused(n: u8) -> Sums
     }
 }
 
+// Before the first of so many hops.
 pub(crate) fn opened(count: usize) -> Sums
     ensures { λ r. ⌜ r ≡ openedOf count ⌝ }
 {
     if MOST < count {
         return refused(refusal::TOO_MANY_HOPS);
     }
-    refused(0)
+    none()
+}
+
+// How many of so many hops are walked: none where there are too many.
+pub(crate) fn walked(count: usize) -> usize
+    ensures { λ r. ⌜ r ≡ walkedOf count ⌝ }
+{
+    if count <= MOST {
+        return count;
+    }
+    0
 }
 
 fn either(first: bool, second: bool) -> bool

@@ -1,4 +1,4 @@
--- `hops::plan_first` meets its contract: a walk of its MIR, by hand. The array lies in a local, its elements are cut in two, the first of them are lent for a lifetime that is made for the call, and come back after it.
+-- `plan_first` meets its contract: a walk of its MIR, by hand. The array lies in a local, its elements are cut in two, the first of them are lent for a lifetime that is made for the call, and come back after it.
 -- Assumes nothing.
 use mathlib.Core.Path.{_≡_, refl, sym, subst}
 use Prim.Native.Nat.{ℕ, _≤_, _<_, _^_}
