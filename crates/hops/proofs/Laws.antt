@@ -13,7 +13,8 @@ use Rattle.residence.specs.Residence.{limit}
 use Rattle.hops.specs.declared.Hop.{Hop}
 use Rattle.hops.specs.declared.Start.{Start}
 use Rattle.hops.specs.declared.End.{End}
-use Rattle.hops.specs.Plan.{isMode, endOf, checked, planOf, TooMany, Good, AllGood, FirstBad, NoneBad}
+use Rattle.hops.specs.Plan.{isMode, endOf, checked, planOf}
+use Rattle.hops.specs.Promises.{TooMany, Good, AllGood, FirstBad, NoneBad}
 
 -- the first hop, where it is bad: its mode before its residence
 bad-mode : {A : Type 0} (h : Hop) (hs : List Hop) (next : Answer A) → isMode (h .mode) ≡ false → checked (h ∷ hs) next ≡ refused 29

@@ -35,7 +35,8 @@ use Rattle.rules.proofs.PathExample.{mine}
 use Rattle.hops.specs.declared.Hop.{Hop}
 use Rattle.hops.specs.declared.Start.{Start}
 use Rattle.hops.specs.declared.End.{End}
-use Rattle.hops.specs.Plan.{isMode, startWith, planOf, Good, AllGood}
+use Rattle.hops.specs.Plan.{isMode, startWith, planOf}
+use Rattle.hops.specs.Promises.{Good, AllGood}
 use Rattle.hops.specs.Shown.{modeNumber, hopAt, Crossed, ShownBy, EveryPlanShown}
 use Rattle.hops.proofs.Laws.{plan-value}
 use Rattle.hops.proofs.Plans.{plan-shown}

@@ -4,7 +4,7 @@
 use Prim.Native.Nat.{ℕ, _-_, _<_, _^_}
 use mathlib.Core.Path.{_≡_, refl, sym}
 use mathlib.Core.Bool.{Bool, true, false, true≢false}
-use mathlib.Core.List.{List, [], _∷_, map}
+use mathlib.Core.List.{[], _∷_}
 use native.Mathlib.Omega.{arith}
 use lib.IntN.{ℤ, pos, negsuc}
 use lib.ListN.{replicate}
@@ -22,8 +22,9 @@ use Rattle.rules.proofs.LargestExample as most
 use Rattle.hops.specs.declared.Hop.{Hop}
 use Rattle.hops.specs.declared.Start.{Start}
 use Rattle.hops.specs.declared.End.{End}
-use Rattle.hops.specs.Plan.{startWith, endOf, planOf, raisedAtEach}
-use Rattle.hops.specs.Shown.{hopAt, Crossed, ShownBy}
+use Rattle.hops.specs.Plan.{startWith, endOf, planOf}
+use Rattle.hops.specs.Promises.{raisedAtEach}
+use Rattle.hops.specs.Shown.{Crossed, ShownBy}
 use Rattle.hops.proofs.Laws.{too-many, first-bad, none-bad}
 use Rattle.hops.proofs.Plans.{plan-shown}
 use Rattle.hops.proofs.Raised.{none-is-zero, held-once}

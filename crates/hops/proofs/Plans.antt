@@ -1,6 +1,6 @@
 -- The plan of a path's hops is what the path shows: its sums are those of the path, by the nodes' modes.
 -- Assumes nothing.
-use Prim.Native.Nat.{ℕ, _+_, _<_, _≤_}
+use Prim.Native.Nat.{ℕ, _+_, _<_}
 use mathlib.Core.Path.{_≡_, refl, sym, ap, _∙_}
 use mathlib.Core.Bool.{Bool, true, false, cond, _||_}
 use mathlib.Core.List.{List, [], _∷_, _++_, map}
@@ -19,10 +19,11 @@ use Rattle.scratch_pad.specs.Sum.{raised}
 use Rattle.rules.specs.Change.{padOf}
 use Rattle.rules.specs.Rules.{sync, kindOf, Mode, oneStep, twoStep, Call, Word, updated, created, added, Reply}
 use Rattle.rules.specs.Path.{Stop, Unrefused, Every, of-sync, FirstWay, FollowUps, existing, born, never, answerIn, firstAnswer, unitsOf, unitsIn, residenceAt}
-use Rattle.rules.proofs.Calls.{says, when, FirstSays, refused-first, updated-first, created-first, waiting-first, SecondSays, refused-second, passed-second, added-second}
+use Rattle.rules.proofs.Calls.{says, when, FirstSays, refused-first, updated-first, created-first, waiting-first, refused-second, passed-second, added-second}
 use Rattle.rules.proofs.Crossing.{updatedAt, answered-first, first-at, Says, says-both, says-first, SaysAt}
 use Rattle.rules.proofs.Pads.{total, onSecond, first-way, someCreated, sync-end, never-created, sync-pads}
-use Rattle.hops.specs.Plan.{isMode, residencesIn, anyIn, startWith, AllGood}
+use Rattle.hops.specs.Plan.{isMode, residencesIn, anyIn, startWith}
+use Rattle.hops.specs.Promises.{AllGood}
 use Rattle.hops.specs.Shown.{modeNumber, hopAt, twoStepIn, isThere, PlanShown}
 use Rattle.hops.proofs.Laws.{none-bad}
 

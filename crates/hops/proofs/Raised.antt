@@ -14,9 +14,9 @@ use Rattle.scratch_pad.specs.Sum.{raised}
 use Rattle.scratch_pad.proofs.Whole.{inRange}
 use Rattle.scratch_pad.proofs.Held.{raised-none, raised-more, raised-range, read-range}
 use Rattle.hops.specs.declared.Hop.{Hop}
-use Rattle.hops.specs.declared.Start.{Start}
 use Rattle.hops.specs.declared.End.{End}
-use Rattle.hops.specs.Plan.{residenceIn, residencesIn, anyIn, NoneIsZero, raisedAtEach, HeldOnce}
+use Rattle.hops.specs.Plan.{residenceIn, residencesIn, anyIn}
+use Rattle.hops.specs.Promises.{NoneIsZero, raisedAtEach, HeldOnce}
 use Rattle.hops.proofs.Laws.{plan-value}
 
 -- without a hop of a mode there is no residence of it

@@ -1,13 +1,10 @@
 -- The plan of a path, "the pads that a path would show before it is built" (document 02, W-212; refusals 28, 29 and 10).
-use Prim.Native.Nat.{ℕ, _+_, _<_, _≤_}
-use mathlib.Core.Path.{_≡_}
-use mathlib.Core.Bool.{Bool, true, false, cond, not, _||_}
-use mathlib.Core.List.{List, [], _∷_, _++_}
+use Prim.Native.Nat.{ℕ, _+_}
+use mathlib.Core.Bool.{Bool, false, cond, not, _||_}
+use mathlib.Core.List.{List, [], _∷_}
 use lib.Dec.{ltb, leb, eqb}
 use lib.IntN.{ℤ, pos}
 use lib.ListN.{length}
-use mir.Syntax.{w64}
-use mir.Val.{SFits}
 use Rattle.refusal.specs.Answer.{Answer, value, refused, refuse}
 use Rattle.residence.specs.Residence.{limit}
 use Rattle.scratch_pad.specs.Sum.{raised}
@@ -46,8 +43,8 @@ abbrev pub existsAfter : List Hop → Start → Bool
 existsAfter hs s = s .«two_step» || anyIn 2 hs
 
 -- "give the final pads, S and whether a Follow_Up exists, by plain sums": the residences of one-step hops go on the Sync's pad, those of
--- two-step hops on the Follow_Up's. Each sum is held once, at its end ("with W-205's largest pad included"). "where none exists its pad is
--- 0": there is no two-step hop then, and the sum is of nothing onto 0 (`NoneIsZero`)
+-- two-step hops on the Follow_Up's. Each sum is held once, at its end ("with W-205's largest pad included"; Promises `HeldOnce`). "where
+-- none exists its pad is 0": there is no two-step hop then, and the sum is of nothing onto 0 (Promises `NoneIsZero`)
 abbrev pub endOf : List Hop → Start → End
 endOf hs s =
     record {
@@ -69,40 +66,3 @@ planOf hs s = refuse 28 (ltb 255 (length hs)) (checked hs (value (endOf hs s)))
 abbrev pub plannedAnswer : Planned → Answer End
 plannedAnswer (Shows e) = value e
 plannedAnswer (Refused n) = refused n
-
--- The refusals from the other side: when each is given, whatever else holds. "28 first"
-abbrev pub TooMany : Type 0
-TooMany = (hs : List Hop) (s : Start) → 255 < length hs → planOf hs s ≡ refused 28
-
--- "then the first bad hop, its mode before its stay": those before it are good, those behind it are any
-abbrev pub Good : Hop → Type 0
-Good h = (isMode (h .mode) ≡ true) × (h .residence < limit)
-
-abbrev pub AllGood : List Hop → Type 0
-AllGood [] = Unit {0}
-AllGood (h ∷ hs) = Good h × AllGood hs
-
-abbrev pub FirstBad : Type 0
-FirstBad =
-    (before after : List Hop) (h : Hop) (s : Start)
-    → length (before ++ h ∷ after) ≤ 255
-    → AllGood before
-    → (isMode (h .mode) ≡ false → planOf (before ++ h ∷ after) s ≡ refused 29)
-    × (isMode (h .mode) ≡ true → limit ≤ h .residence → planOf (before ++ h ∷ after) s ≡ refused 10)
-
--- and no other list is refused
-abbrev pub NoneBad : Type 0
-NoneBad = (hs : List Hop) (s : Start) → length hs ≤ 255 → AllGood hs → planOf hs s ≡ value (endOf hs s)
-
--- "where none exists its pad is 0"
-abbrev pub NoneIsZero : Type 0
-NoneIsZero = (hs : List Hop) (s : Start) (e : End) → planOf hs s ≡ value e → e .exists ≡ false → e .«follow_up_pad» ≡ pos 0
-
--- One hop after the other, each sum held there and then, as nodes do it (W-205)
-abbrev pub raisedAtEach : ℕ → ℤ → List Hop → ℤ
-raisedAtEach m z [] = z
-raisedAtEach m z (h ∷ hs) = raisedAtEach m (raised z (residenceIn m h)) hs
-
--- Held at each hop or once at the end is the same: no residence is below 0, so that a pad that comes to 2^63-1 stays there.
-abbrev pub HeldOnce : Type 0
-HeldOnce = (m : ℕ) (z : ℤ) (hs : List Hop) → SFits w64 z → raisedAtEach m z hs ≡ raised z (residencesIn m hs)

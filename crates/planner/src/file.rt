@@ -8,7 +8,7 @@ use hops::Start;
 ghost use mathlib.Core.Path.{_≡_};
 ghost use Prim.Native.Nat.{_≤_};
 ghost use lib.ListN.{take};
-ghost use Rattle.hops.specs.Plan.{planOf, plannedAnswer};
+ghost use Rattle.hops.specs.Plan.{plannedAnswer};
 ghost use Rattle.planner.specs.File.{startIn, countIn, isPath, hopFrom, hopsFrom, planIn};
 
 const TWO_STEP: usize = 0;

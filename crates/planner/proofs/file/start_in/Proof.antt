@@ -1,8 +1,7 @@
 -- `file::start_in` meets its contract: the pads and S are read where the definition has them.
 -- Assumes nothing.
-use mathlib.Core.Path.{_∙_, ap}
+use mathlib.Core.Path.{_∙_}
 use mathlib.Core.Bool.{not}
-use Prim.Native.Nat.{ℕ}
 use lib.Dec.{eqb}
 use mir.Syntax.{w64}
 use mir.ValLaws.{toZ-ofZ}
