@@ -375,6 +375,7 @@ static size_t spoil_image(const struct image *image, size_t size) {
 static void random_input(struct input *input) {
     fill(input, sizeof *input);
     input->null = once_in(2);
+    input->two_step = once_in(2);
     input->first_size = input->second_size = input->place = 0;
     some_stamps(input);
     some_table(&input->table);
@@ -643,5 +644,4 @@ void input_for_plan(struct input *input) {
     for (i = 0; i < hops; i++) lay_hop(input->first + i * sizeof(struct rtm_hop), spoilt);
     input->sync_pad = (int64_t)some_pad();
     input->follow_up_pad = (int64_t)some_pad();
-    input->two_step = once_in(2);
 }

@@ -700,7 +700,7 @@ uint8_t plain_replay(const uint8_t *capture, size_t size, struct rtm_report *rep
 
 /* The plan of a path */
 
-/* A pad and residences, whose sum fits 63 bits. */
+/* A pad and residences. The sum of these fits 63 bits. */
 static inline int64_t raised(int64_t pad, uint64_t units) {
     if (pad >= 0 && units >= (uint64_t)(INT64_MAX - pad)) return INT64_MAX;
     return pad + (int64_t)units;

@@ -142,7 +142,7 @@ static void prepare_capture(void) {
     }
 }
 
-/* As many one-step and two-step hops, in no order that a processor foresees. */
+/* One-step and two-step hops in a random order. */
 static void prepare_plan(void) {
     uint32_t i, some = 1;
     for (i = 0; i < RTM_MOST_HOPS; i++) {

@@ -1,6 +1,6 @@
 /*
  * paths [number [seed]]: random paths, each planned by rtm_plan and then crossed by node calls, the Sync in the
- * path's order and its Follow_Up in the other. Pads, S and whether there is a Follow_Up must be as planned.
+ * path's order and its Follow_Up in reverse. Pads, S and whether there is a Follow_Up must be as planned.
  * Exit status 0 if they are.
  */
 #include "bunpennant.h"
@@ -60,13 +60,14 @@ static void write_message(uint8_t *message, uint8_t ptp_type, int64_t pad, bool 
     if (rtm_write(&fields, NULL, 0, message, RTM_CREATED_SIZE, &size) != 0) abort();
 }
 
+/* A message at a node. A Follow_Up that is created goes to the output. */
 static uint8_t cross(size_t place, uint8_t *message, uint8_t *output) {
     struct node *node = &nodes[place];
     if (hops[place].mode == RTM_ONE_STEP) {
         return rtm_one_step(message, RTM_CREATED_SIZE, node->ntp, node->entry, node->leave);
     }
-    return rtm_two_step(&node->table, message, RTM_CREATED_SIZE, output, RTM_CREATED_SIZE, node->ntp,
-                        node->entry, node->leave);
+    return rtm_two_step(&node->table, message, RTM_CREATED_SIZE, output, output == NULL ? 0 : RTM_CREATED_SIZE,
+                        node->ntp, node->entry, node->leave);
 }
 
 /* What node calls leave over a path of so many nodes. */

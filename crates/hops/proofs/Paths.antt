@@ -37,7 +37,7 @@ use Rattle.hops.specs.declared.Start.{Start}
 use Rattle.hops.specs.declared.End.{End}
 use Rattle.hops.specs.Plan.{isMode, startWith, planOf}
 use Rattle.hops.specs.Promises.{Good, AllGood}
-use Rattle.hops.specs.Shown.{modeNumber, hopAt, Crossed, ShownBy, EveryPlanShown}
+use Rattle.hops.specs.Shown.{modeNumber, hopAt, Crossed, Bare, ShownBy, EveryPlanShown}
 use Rattle.hops.proofs.Laws.{plan-value}
 use Rattle.hops.proofs.Plans.{plan-shown}
 use Rattle.hops.proofs.Raised.{fits-range}
@@ -96,6 +96,11 @@ node-apart : (q : Identity) (m : Mode) (u : ℕ) (s : List ℕ) (o : Option (Lis
 unfolding holds
 node-apart q m u s none = apart q (node m u s none) refl (λ e. inl refl, tt)
 node-apart q m u s (some f) = apart q (node m u s (some f)) refl (λ e. inl refl, (λ e. inr refl, tt))
+
+-- it gets those calls alone
+node-bare : (m : Mode) (u : ℕ) (s : List ℕ) (o : Option (List ℕ)) → Bare (node m u s o)
+node-bare m u s none = (refl, refl, inl (refl, refl))
+node-bare m u s (some f) = (refl, refl, inr (refl, refl))
 
 -- an answer with a word is no refusal
 not-refused : {o : Option (Answer Word)} {w : Word} → o ≡ some (value w) → (a : ℕ) → o ≡ some (refused a) → ⊥
@@ -165,11 +170,11 @@ record Route (q : Identity) (hs : List Hop) (start : List ℕ) : Type 0 where
   unrefused : Every Unrefused nodes
   sync-way : FirstWay start nodes last
   hops : map hopAt nodes ≡ hs
-  empty : Every (λ n. n .table ≡ replicate 16 zeros) nodes
+  bare : Every Bare nodes
 
 -- of no hops
 no-route : (q : Identity) (s : List ℕ) → Route q [] s
-no-route q s = record { nodes = []; last = s; apart = tt; unrefused = tt; sync-way = FirstWay.done; hops = refl; empty = tt }
+no-route q s = record { nodes = []; last = s; apart = tt; unrefused = tt; sync-way = FirstWay.done; hops = refl; bare = tt }
 
 -- with a node in front
 in-front :
@@ -191,7 +196,7 @@ in-front q m b h hs s o number accepted k second r =
       unrefused = ((not-refused (ap some (first-answer q u accepted s m b k)), second), r .unrefused);
       sync-way = FirstWay.cross (record { handed = callOn m u s; here = refl; mode = refl; octets = refl; outcome = refl }) (r .sync-way);
       hops = λ i. same i ∷ r .hops i;
-      empty = (refl, r .empty);
+      bare = (node-bare m u s o, r .bare);
     }
 
 -- a node that creates nothing may stand in front of what a path does for a Sync with S clear
@@ -306,7 +311,7 @@ shown-by hs s e p m r {first} {second} f w =
     record { is-sync = m .kind; apart = r .apart; unrefused = r .unrefused; sync-way = r .sync-way; follow-ups = w } in
     let few : length (r .nodes) ≤ 255 =
     omega (arith, plan-value hs s e p .0, length-map (r .nodes) hopAt, ap length (r .hops)) in
-    let plan = plan-shown mine b (m .octets) (r .last) (r .nodes) first second handed few c (λ t. sym (f t)) in
+    let plan = plan-shown mine b (m .octets) (r .last) (r .nodes) first second handed few c (λ t. sym (f t)) .0 in
     record {
       identity = mine;
       start = m .octets;
@@ -316,7 +321,7 @@ shown-by hs s e p m r {first} {second} f w =
       second = second;
       crossed = c;
       hops = r .hops;
-      empty = r .empty;
+      bare = r .bare;
       sync-starts = m .pad;
       follow-up-starts = f;
       ends = same-value (sym plan ∙ (λ i. planOf (r .hops i) (startWith (m .pad i) handed b)) ∙ p);
@@ -324,18 +329,18 @@ shown-by hs s e p m r {first} {second} f w =
 
 -- whatever hops and pads are planned, some path shows that plan
 pub every-plan-shown : EveryPlanShown
-every-plan-shown hs s e f g p = by (s .«two_step») p
+every-plan-shown hs s e f g p = by (s .«two_step») refl p
   where
     from : Bool → Start
     from b = startWith (s .«sync_pad») (s .«follow_up_pad») b
 
-    by : (b : Bool) → planOf hs (from b) ≡ value e → ShownBy hs (from b) e
-    by true p =
+    by : (b : Bool) → s .«two_step» ≡ b → planOf hs (from b) ≡ value e → ShownBy hs (from b) e
+    by true t p =
         let m = message (sync mine true) (octetsOf mine true 0 (pos 0)) (s .«sync_pad») refl refl f in
-        let d = message (followUp mine) (octetsOf mine true 8 (pos 0)) (s .«follow_up_pad») refl refl g in
+        let d = message (followUp mine) (octetsOf mine true 8 (pos 0)) (s .«follow_up_pad») refl refl (g t) in
         let (r, last, w) = both-cross mine hs (plan-value hs (from true) e p .1) (m .octets) (d .octets) (m .kind) (d .kind) in
-        shown-by hs (from true) e p m r (λ t. d .pad) (existing (d .kind) (Permᴰ·refl (r .nodes)) w)
-    by false p =
+        shown-by hs (from true) e p m r (λ i. d .pad) (existing (d .kind) (Permᴰ·refl (r .nodes)) w)
+    by false t p =
         let m = message (sync mine false) (octetsOf mine false 0 (pos 0)) (s .«sync_pad») refl refl f in
         let (r, second, w) = sync-crosses mine hs (plan-value hs (from false) e p .1) (m .octets) (m .kind) in
-        shown-by hs (from false) e p m r (λ t. absurd (true≢false (sym t))) w
+        shown-by hs (from false) e p m r (λ i. absurd (true≢false (sym i))) w

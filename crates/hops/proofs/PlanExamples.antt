@@ -55,7 +55,7 @@ plan-created :
 unfolding by-created created.follow-ups
 plan-created =
     plan-shown mine false (aSync false 0) (aSync true 98304000) created.path (pos 0) (padOf (aFollowUp 16384000)) largest (omega arith) by-created
-    (λ e. absurd (true≢false (sym e)))
+    (λ e. absurd (true≢false (sym e))) .0
 
 -- S set, from -5 and 11, the Follow_Up in another order
 by-existing :
@@ -74,7 +74,7 @@ plan-existing :
 unfolding by-existing
 plan-existing =
     plan-shown mine true (branch.setSync (negsuc 4)) (branch.setSync (pos 98303995)) branch.path (padOf (branch.itsFollowUp 11))
-    (padOf (branch.itsFollowUp 16384011)) (pos 11) (omega arith) by-existing (λ e. refl)
+    (padOf (branch.itsFollowUp 16384011)) (pos 11) (omega arith) by-existing (λ e. refl) .0
 
 -- S clear, no two-step node: no Follow_Up, and its pad is 0
 by-none : Crossed mine false (aSync false 7) (aSync false 111411207) branch.oneStepPath (pos 0) (pos 0)
@@ -91,7 +91,7 @@ plan-none : planOf (hop 1 98304000 ∷ hop 1 13107200 ∷ []) (startWith (pos 7)
 unfolding by-none branch.none-created
 plan-none =
     plan-shown mine false (aSync false 7) (aSync false 111411207) branch.oneStepPath (pos 0) (pos 0) (pos 9) (omega arith) by-none
-    (λ e. absurd (true≢false (sym e)))
+    (λ e. absurd (true≢false (sym e))) .0
 
 -- no node at all
 by-nothing : Crossed mine false (aSync false 7) (aSync false 7) [] (pos 0) (pos 0)
@@ -100,7 +100,7 @@ by-nothing = record { is-sync = refl; apart = tt; unrefused = tt; sync-way = Fir
 plan-nothing : planOf [] (startWith (pos 7) (negsuc 0) false) ≡ ends (pos 7) (pos 0) false
 unfolding by-nothing
 plan-nothing =
-    plan-shown mine false (aSync false 7) (aSync false 7) [] (pos 0) (pos 0) (negsuc 0) (omega arith) by-nothing (λ e. absurd (true≢false (sym e)))
+    plan-shown mine false (aSync false 7) (aSync false 7) [] (pos 0) (pos 0) (negsuc 0) (omega arith) by-nothing (λ e. absurd (true≢false (sym e))) .0
 
 -- the largest pad: 1 ns onto 2^63-2
 by-largest : Crossed mine true (most.aSync most.below) (most.aSync largest) (most.one ∷ []) (pos 0) (pos 0)
@@ -116,7 +116,7 @@ by-largest =
 plan-largest : planOf (hop 1 65536 ∷ []) (startWith (pos (2 ^ 63 - 2)) (pos 0) true) ≡ ends largest (pos 0) true
 unfolding by-largest most.one-premises
 plan-largest =
-    plan-shown mine true (most.aSync most.below) (most.aSync largest) (most.one ∷ []) (pos 0) (pos 0) (pos 0) (omega arith) by-largest (λ e. refl)
+    plan-shown mine true (most.aSync most.below) (most.aSync largest) (most.one ∷ []) (pos 0) (pos 0) (pos 0) (omega arith) by-largest (λ e. refl) .0
 
 -- ---- paths that are made of hops
 
@@ -128,7 +128,7 @@ fits n l = record { sfits = l }
 made-of-zero : ShownBy (hop 2 0 ∷ []) (startWith (pos 7) largest false) (record { «sync_pad» = pos 7; «follow_up_pad» = pos 0; «two_step» = true; exists = true })
 made-of-zero =
     every-plan-shown (hop 2 0 ∷ []) (startWith (pos 7) largest false) (record { «sync_pad» = pos 7; «follow_up_pad» = pos 0; «two_step» = true; exists = true })
-    (fits 7 (omega arith)) (fits (2 ^ 63 - 1) (omega arith)) refl
+    (fits 7 (omega arith)) (λ e. absurd (true≢false (sym e))) refl
 
 -- S set, a one-step hop and the longest residence at a two-step hop, onto the largest pads
 made-of-both :
@@ -137,7 +137,7 @@ made-of-both :
 made-of-both =
     every-plan-shown (hop 1 5 ∷ hop 2 (limit - 1) ∷ []) (startWith (negsuc 4) largest true)
     (record { «sync_pad» = pos 0; «follow_up_pad» = largest; «two_step» = true; exists = true })
-    (record { sfits = omega arith }) (fits (2 ^ 63 - 1) (omega arith)) refl
+    (record { sfits = omega arith }) (λ e. fits (2 ^ 63 - 1) (omega arith)) refl
 
 -- ---- refusals
 

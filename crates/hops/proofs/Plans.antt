@@ -132,11 +132,13 @@ plan-shown q b s last ns x y handed l c h =
     let p = sync-pads q b s last ns x y (c .is-sync) (c .apart) (c .sync-way) (c .follow-ups) in
     let t = sums ns (p .says-each) (c .unrefused) in
     let set : b || anyIn 2 hs ≡ b || someCreated ns = sym (set-at-end q b (c .is-sync) (c .unrefused) (c .sync-way)) in
-    let flag : b || anyIn 2 hs ≡ twoStepIn (kindOf last) =
-    set ∙ sym (ap twoStepIn (first-way (of-sync b) (c .is-sync) (c .sync-way) .kind ∙ sync-end q b ns)) in
+    let kind : kindOf last ≡ sync q (b || someCreated ns) = first-way (of-sync b) (c .is-sync) (c .sync-way) .kind ∙ sync-end q b ns in
+    let flag : b || anyIn 2 hs ≡ twoStepIn (kindOf last) = set ∙ sym (ap twoStepIn kind) in
     let there : b || anyIn 2 hs ≡ isThere (c .follow-ups) = set ∙ sym (is-there (c .follow-ups)) in
     let one : raised (padOf s) (residencesIn 1 hs) ≡ padOf last = ap (raised (padOf s)) (sym (t .0)) ∙ sym (p .first-pad) in
     let two : raised (cond b handed (pos 0)) (residencesIn 2 hs) ≡ y =
-    (λ j. raised (start-pad handed (c .follow-ups) h j) (sym (t .1) j)) ∙ sym (p .second-pad) in
-    none-bad hs (startWith (padOf s) handed b) (omega (arith, length-map ns hopAt)) (all-good ns)
-    ∙ (λ j. value (record { «sync_pad» = one j; «follow_up_pad» = two j; «two_step» = flag j; exists = there j }))
+    (λ j. raised (start-pad handed (c .follow-ups) h j) (sym (t .1) j)) ∙ sym (p .second-pad) in (
+      none-bad hs (startWith (padOf s) handed b) (omega (arith, length-map ns hopAt)) (all-good ns)
+          ∙ (λ j. value (record { «sync_pad» = one j; «follow_up_pad» = two j; «two_step» = flag j; exists = there j })),
+      kind ∙ ap (sync q) (sym (ap twoStepIn kind)),
+    )

@@ -5,6 +5,8 @@ use Prim.Native.Nat.{ℕ, _≤_}
 use mathlib.Core.Path.{_≡_}
 use mathlib.Core.Bool.{Bool, true, false}
 use mathlib.Core.List.{List, map}
+use mathlib.Core.Logic.{_⊎_}
+use mathlib.Core.Option.{none, some}
 use lib.IntN.{ℤ}
 use lib.ListN.{length, replicate}
 use mir.Syntax.{w64}
@@ -64,18 +66,24 @@ shown {last = last} {second = second} c =
       exists = isThere (c .follow-ups);
     }
 
--- The plan of a path's hops is what the path shows. With S set the Follow_Up's pad handed in is that which it starts with; with S clear it
--- is any. "up to 255" hops; a path may have none.
+-- The plan of a path's hops is what the path shows; the Sync is still one at its end, of that identity. With S set the Follow_Up's pad
+-- handed in is that which it starts with; with S clear it is any. "up to 255" hops; a path may have none.
 abbrev pub PlanShown : Type 0
 PlanShown =
     (q : Identity) (s : Bool) (start last : List ℕ) (path : List Stop) (first second handed : ℤ)
     → length path ≤ 255
     → (c : Crossed q s start last path first second)
     → (s ≡ true → handed ≡ first)
-    → planOf (map hopAt path) (startWith (padOf start) handed s) ≡ value (shown c)
+    → (planOf (map hopAt path) (startWith (padOf start) handed s) ≡ value (shown c)) × (kindOf last ≡ sync q (shown c .«two_step»))
 
--- A path that shows a plan: its nodes are the hops, each with an empty table, and the Sync and, with S set, the Follow_Up start with
--- the pads handed in.
+-- a node with an empty table, which gets the Sync's call and then, where it crosses the node, the Follow_Up's, and nothing else
+abbrev pub Bare : Stop → Type 0
+Bare n =
+    (n .table ≡ replicate 16 zeros)
+    × (n .firstPlace ≡ 0)
+    × (((n .secondPlace ≡ none) × (length (n .events) ≡ 1)) ⊎ ((n .secondPlace ≡ some 1) × (length (n .events) ≡ 2)))
+
+-- A path that shows a plan: its nodes are the hops, and the Sync and, with S set, the Follow_Up start with the pads handed in.
 pub record ShownBy (hs : List Hop) (s : Start) (e : End) : Type 0 where
   pub identity : Identity
   pub start : List ℕ
@@ -85,17 +93,17 @@ pub record ShownBy (hs : List Hop) (s : Start) (e : End) : Type 0 where
   pub second : ℤ
   pub crossed : Crossed identity (s .«two_step») start last path first second
   pub hops : map hopAt path ≡ hs
-  pub empty : Every (λ n. n .table ≡ replicate 16 zeros) path
+  pub bare : Every Bare path
   pub sync-starts : padOf start ≡ s .«sync_pad»
   pub follow-up-starts : s .«two_step» ≡ true → first ≡ s .«follow_up_pad»
   pub ends : shown crossed ≡ e
 
--- "for every list": whatever hops and whatever pads are planned, some path shows that plan. The pads are numbers of their type, as they
--- are in every value that the code is handed.
+-- "for every list": whatever hops and whatever pads are planned, some path shows that plan. The pads that are looked at are numbers of
+-- their type, as they are in every value that the code is handed.
 abbrev pub EveryPlanShown : Type 0
 EveryPlanShown =
     (hs : List Hop) (s : Start) (e : End)
     → SFits w64 (s .«sync_pad»)
-    → SFits w64 (s .«follow_up_pad»)
+    → (s .«two_step» ≡ true → SFits w64 (s .«follow_up_pad»))
     → planOf hs s ≡ value e
     → ShownBy hs s e

@@ -13,7 +13,8 @@ ghost use Rattle.hops.specs.Plan.{plannedAnswer};
 ghost use Rattle.line.specs.Placed.{Placed};
 ghost use Rattle.line.specs.Planning.{followUpWords, endLine, plannedLine, planLineOf};
 
-// The most octets that are read. No path in octets has as many.
+// The most octets that are read. No path has just as many, so that an input which is not read whole is
+// malformed.
 const MOST: usize = 65536;
 
 // The pad of the Follow_Up, or "-" where there is none.

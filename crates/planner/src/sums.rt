@@ -12,8 +12,8 @@ ghost use Prim.Native.Nat.{_≤_};
 ghost use Rattle.hops.specs.Plan.{isMode, residenceIn, followUpStart, plannedAnswer};
 ghost use Rattle.planner.specs.Sums.{Small, refused as refused·spec, going, openedOf, walkedOf, hopOf, stepOf, closedOf};
 
-// Of the hops so far: the refusal of the first bad one, or 0; the residences by mode; whether any was
-// two-step.
+// Of the hops so far: 28, or the refusal of the first bad one, or 0; the residences by mode; whether
+// any was two-step.
 pub(crate) struct Sums {
     refusal: u8,
     one_step: u64,
