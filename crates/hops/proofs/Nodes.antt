@@ -20,7 +20,8 @@ use Rattle.rules.specs.Rules.{Kind, sync, followUp, kindOf, kindIdentity, Mode,
 use Rattle.rules.specs.Rules.{added, Reply, addToPad, update, create, keep, gather, replyBy, keepRequest, requestBy, rules}
 use Rattle.rules.specs.Path.{Stop, SecondUnrefused, Apart, of-sync}
 use Rattle.rules.proofs.Bearing.{sound-ptp}
-use Rattle.rules.proofs.Calls.{says, added-kind, first-call}
+use Rattle.rules.specs.Credited.{says}
+use Rattle.rules.proofs.Calls.{added-kind, first-call}
 use Rattle.rules.proofs.Samples.{after, apart}
 use Rattle.hops.specs.Shown.{Bare}
 

@@ -25,7 +25,8 @@ use Rattle.rules.specs.Path.{Stop, Unrefused, SecondUnrefused, Apart, Every, Fi
 use Rattle.rules.specs.Path.{FollowUps, existing, born, never, unitsOf}
 use Rattle.rules.proofs.Bearing.{sound-ptp}
 use Rattle.rules.proofs.Changes.{with-pad-pad, with-pad-kind}
-use Rattle.rules.proofs.Calls.{says, sync-created}
+use Rattle.rules.specs.Credited.{says}
+use Rattle.rules.proofs.Calls.{sync-created}
 use Rattle.rules.proofs.Samples.{octetsOf, not-created, apart}
 use Rattle.rules.proofs.PathExample.{mine}
 use Rattle.hops.specs.declared.Hop.{Hop}

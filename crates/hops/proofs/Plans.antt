@@ -19,9 +19,12 @@ use Rattle.scratch_pad.specs.Sum.{raised}
 use Rattle.rules.specs.Change.{padOf}
 use Rattle.rules.specs.Rules.{sync, kindOf, Mode, oneStep, twoStep, Call, Word, updated, created, added, Reply}
 use Rattle.rules.specs.Path.{Stop, Unrefused, Every, of-sync, FirstWay, FollowUps, existing, born, never, answerIn, firstAnswer, unitsOf, unitsIn, residenceAt}
-use Rattle.rules.proofs.Calls.{says, when, FirstSays, refused-first, updated-first, created-first, waiting-first, refused-second, passed-second, added-second}
-use Rattle.rules.proofs.Crossing.{updatedAt, answered-first, first-at, Says, says-both, says-first, SaysAt}
-use Rattle.rules.proofs.Pads.{total, onSecond, first-way, someCreated, sync-end, never-created, sync-pads}
+use Rattle.rules.specs.Credited.{says, someCreated}
+use Rattle.rules.proofs.Calls.{when, FirstSays, refused-first, updated-first, created-first, waiting-first, refused-second, passed-second, added-second}
+use Rattle.rules.proofs.Crossing.{updatedAt, answered-first, first-at}
+use Rattle.rules.proofs.Answered.{Says, says-both, says-first, Answered}
+use Rattle.rules.proofs.Pads.{total, onSecond, never-created, sync-pads}
+use Rattle.rules.proofs.PathSums.{set-exactly-if}
 use Rattle.hops.specs.Plan.{isMode, residencesIn, anyIn, startWith}
 use Rattle.hops.specs.Promises.{AllGood}
 use Rattle.hops.specs.Shown.{modeNumber, hopAt, twoStepIn, isThere, PlanShown}
@@ -56,20 +59,20 @@ all-good (n ∷ ns) = ((a-mode (n .mode), below (getElem? (n .events) (n .firstP
 by-mode :
     {m : Mode} {o p : Option (Answer Word)} (u : ℕ) → Says m o p → ((i : ℕ) → o ≡ some (refused i) → ⊥) → ((i : ℕ) → p ≡ some (refused i) → ⊥)
     → (when updated o u ≡ cond (eqb (modeNumber m) 1) u 0) × (when created o u + when added p u ≡ cond (eqb (modeNumber m) 2) u 0)
-by-mode u (says-both (refused-first m b i) s) f g = absurd (f i refl)
-by-mode u (says-both (updated-first b) passed-second) f g = (refl, refl)
-by-mode u (says-both waiting-first (refused-second i)) f g = absurd (g i refl)
-by-mode u (says-both waiting-first added-second) f g = (refl, omega arith)
+by-mode u (says-both (refused-first m b i) s w) f g = absurd (f i refl)
+by-mode u (says-both (updated-first b) passed-second w) f g = (refl, refl)
+by-mode u (says-both waiting-first (refused-second i) w) f g = absurd (g i refl)
+by-mode u (says-both waiting-first added-second w) f g = (refl, omega arith)
 by-mode u (says-first (refused-first m b i)) f g = absurd (f i refl)
 by-mode u (says-first (updated-first b)) f g = (refl, refl)
 by-mode u (says-first created-first) f g = (refl, omega arith)
 
-sums : (ns : List Stop) → Every SaysAt ns → Every Unrefused ns
+sums : (q : Identity) (ns : List Stop) → Every (Answered q) ns → Every Unrefused ns
     → (total updatedAt ns ≡ residencesIn 1 (map hopAt ns)) × (total onSecond ns ≡ residencesIn 2 (map hopAt ns))
-sums [] h u = (refl, refl)
-sums (n ∷ ns) h u =
-    let x = by-mode (residenceAt n) (h .0) (u .0 .0) (u .0 .1) in
-    let y = sums ns (h .1) (u .1) in
+sums q [] h u = (refl, refl)
+sums q (n ∷ ns) h u =
+    let x = by-mode (residenceAt n) (h .0 .answers) (u .0 .0) (u .0 .1) in
+    let y = sums q ns (h .1) (u .1) in
     (omega (arith, x .0, y .0), omega (arith, x .1, y .1))
 
 -- ---- S: where it is clear the first two-step hop sets it
@@ -130,9 +133,9 @@ pub plan-shown : PlanShown
 plan-shown q b s last ns x y handed l c h =
     let hs = map hopAt ns in
     let p = sync-pads q b s last ns x y (c .is-sync) (c .apart) (c .sync-way) (c .follow-ups) in
-    let t = sums ns (p .says-each) (c .unrefused) in
+    let t = sums q ns (p .each) (c .unrefused) in
     let set : b || anyIn 2 hs ≡ b || someCreated ns = sym (set-at-end q b (c .is-sync) (c .unrefused) (c .sync-way)) in
-    let kind : kindOf last ≡ sync q (b || someCreated ns) = first-way (of-sync b) (c .is-sync) (c .sync-way) .kind ∙ sync-end q b ns in
+    let kind : kindOf last ≡ sync q (b || someCreated ns) = set-exactly-if q b s last ns (c .is-sync) (c .sync-way) in
     let flag : b || anyIn 2 hs ≡ twoStepIn (kindOf last) = set ∙ sym (ap twoStepIn kind) in
     let there : b || anyIn 2 hs ≡ isThere (c .follow-ups) = set ∙ sym (is-there (c .follow-ups)) in
     let one : raised (padOf s) (residencesIn 1 hs) ≡ padOf last = ap (raised (padOf s)) (sym (t .0)) ∙ sym (p .first-pad) in

@@ -15,14 +15,14 @@ use Rattle.refusal.proofs.Answers.{Numbered, numbered-by}
 use Rattle.records.specs.Slots.{Slots, zeros}
 use Rattle.records.specs.Node.{tableAnswer, Event, tick, call, switchover, step, result, run}
 use Rattle.image.specs.Layout.{sum}
-use Rattle.rules.specs.Rules.{Mode, oneStep, twoStep, Call, Word, updated, passed, created, waiting, added, rules}
+use Rattle.rules.specs.Rules.{Mode, oneStep, twoStep, Call, Word, updated, passed, created, waiting, added, wordNumber, rules}
 use Rattle.rules.specs.Numbers.{GivenAt}
 use Rattle.rules.proofs.Numbers.{numbers-given, eleven-withdrawn}
 use Rattle.capture.specs.Layout.{bodyKind, bodiesIn}
 use Rattle.report.specs.declared.Counts.{Counts}
 use Rattle.report.specs.declared.Report.{Report}
 use Rattle.report.specs.Events.{lentOutput, callIn, eventIn}
-use Rattle.report.specs.Report.{counting, wordNumber, refusedMore, withAnswer, withResult, reportFrom, nothingYet, reportOf}
+use Rattle.report.specs.Report.{counting, refusedMore, withAnswer, withResult, reportFrom, nothingYet, reportOf}
 use Rattle.report.specs.Promises.{countOf, sameAnswer, givenIn, CountsOfRun, total, callsIn, CountsAddUp, ElevenNeverCounted, NeverCounted, NothingToReport}
 use Rattle.report.proofs.Captures.{reported}
 

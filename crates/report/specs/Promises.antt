@@ -11,12 +11,12 @@ use Rattle.records.specs.Slots.{zeros}
 use Rattle.records.specs.Node.{Event, tick, call, switchover, Result, told, replied, taken-over, run}
 use Rattle.image.specs.Layout.{sum}
 use Rattle.rules.specs.Change.{followUpOf}
-use Rattle.rules.specs.Rules.{Call, Word, updated, passed, created, waiting, added, Reply, asItCame, addToPad, rules}
+use Rattle.rules.specs.Rules.{Call, Word, updated, passed, created, waiting, added, wordNumber, Reply, asItCame, addToPad, rules}
 use Rattle.report.specs.declared.Counts.{Counts}
 use Rattle.report.specs.declared.Range.{Range}
 use Rattle.report.specs.declared.Range.the-variants.{Absent, Between}
 use Rattle.report.specs.declared.Report.{Report}
-use Rattle.report.specs.Report.{Counted, counting, wordNumber, nothingYet, reportOf, reportOn}
+use Rattle.report.specs.Report.{Counted, counting, nothingYet, reportOf, reportOn}
 
 -- ---- the counts
 

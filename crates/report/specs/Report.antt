@@ -11,7 +11,7 @@ use Rattle.refusal.specs.Answer.{Answer, value, refused, andThen}
 use Rattle.residence.specs.Residence.{acceptedOf}
 use Rattle.records.specs.Slots.{zeros}
 use Rattle.records.specs.Node.{Node, Event, Result, told, replied, taken-over, run}
-use Rattle.rules.specs.Rules.{Call, Word, updated, passed, created, waiting, added, rules}
+use Rattle.rules.specs.Rules.{Call, Word, updated, passed, created, waiting, added, wordNumber, rules}
 use Rattle.rules.specs.Path.{unitsOf}
 use Rattle.report.specs.declared.Counts.{Counts}
 use Rattle.report.specs.declared.Range.{Range}
@@ -53,13 +53,6 @@ counting =
     }
 
 -- "how many were updated, passed, created, waiting, added": one more where that was the answer, ..
-abbrev pub wordNumber : Word → ℕ
-wordNumber updated = 0
-wordNumber passed = 1
-wordNumber created = 2
-wordNumber waiting = 3
-wordNumber added = 4
-
 abbrev pub moreWhere : ℕ → Word → Answer Word → ℕ
 moreWhere n w (value v) = cond (eqb (wordNumber w) (wordNumber v)) (n + 1) n
 moreWhere n w (refused m) = n

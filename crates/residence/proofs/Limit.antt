@@ -1,13 +1,17 @@
--- A residence that a node takes is below the limit, and one below the limit keeps its promise.
+-- A residence that a node takes is below the limit, one that it does not take is refused with 9 or 10, and one below the limit keeps its
+-- promise.
 -- Assumes nothing.
 use Prim.Native.Nat.{ℕ, _<_}
 use mathlib.Core.Path.{_≡_, refl}
+use mathlib.Core.Bool.{Bool, true, false}
+use mathlib.Core.Logic.{_⊎_, inl, inr}
 use native.Mathlib.Omega.{arith}
 use borrow.Author.Tests.{leb-false, lt-leb}
 use lib.Dec.{leb}
 use Rattle.refusal.specs.Answer.{Answer, value, refused, refuse, andThen}
-use Rattle.refusal.proofs.Answers.{not-both, same-value, passes}
+use Rattle.refusal.proofs.Answers.{not-both, same-value, passes, Numbered, its-number}
 use Rattle.residence.specs.declared.Residence.{Residence}
+use Rattle.residence.specs.declared.Residence.the-variants.{Units, InvalidStamp, TooLong}
 use Rattle.residence.specs.Residence.{residenceAnswer, limit, acceptedOf, Promise}
 
 pub below-limit : (r : Residence) (u : ℕ) → acceptedOf r ≡ value u → u < limit
@@ -19,6 +23,21 @@ below-limit r u e = go (residenceAnswer r) e
         let same : v ≡ u = same-value (z .1) in
         omega (arith, leb-false limit v (z .0))
     go (refused n) p = absurd (not-both p)
+
+abbrev pub NineOrTen : ℕ → Type 0
+NineOrTen n = (n ≡ 9) ⊎ (n ≡ 10)
+
+pub nine-or-ten : (r : Residence) (n : ℕ) → acceptedOf r ≡ refused n → NineOrTen n
+nine-or-ten r n e = its-number NineOrTen (acceptedOf r) n (go r) e
+  where
+    too-long : (b : Bool) (u : ℕ) → Numbered NineOrTen (refuse 10 b (value u))
+    too-long true u = inr refl
+    too-long false u = tt
+
+    go : (r : Residence) → Numbered NineOrTen (acceptedOf r)
+    go (Units u) = too-long (leb limit u) u
+    go InvalidStamp = inl refl
+    go TooLong = inr refl
 
 pub promised : (r : Residence) → ((u : ℕ) → residenceAnswer r ≡ value u → u < limit) → Promise r
 promised r h = go (residenceAnswer r) h

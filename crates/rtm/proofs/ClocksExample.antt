@@ -15,13 +15,13 @@ use Rattle.refusal.specs.Answer.{refused}
 use Rattle.stamp.specs.declared.stamps.Stamps.{Stamps}
 use Rattle.stamp.specs.declared.stamps.Stamps.the-variants.{Ptp, Ntp}
 use Rattle.stamp.specs.Rounding.{exact}
-use Rattle.records.specs.Slots.{Slots, same, holds, zeros}
+use Rattle.records.specs.Slots.{same, holds}
 use Rattle.records.specs.Node.{tick, call}
 use Rattle.records.specs.Number.{readNumber, finalNumber}
 use Rattle.rules.specs.Change.{padOf}
 use Rattle.rules.specs.Rules.{Mode, oneStep, twoStep, updated, created, waiting, added, callOf}
 use Rattle.rules.specs.Path.{Unrefused, Apart, Every, of-sync, FirstWay, SecondWay, FollowUps, born}
-use Rattle.rules.proofs.Samples.{octetsOf, spare, after, visit, unrefused, first-halves, other, apart}
+use Rattle.rules.proofs.Samples.{new, octetsOf, spare, after, visit, unrefused, first-halves, other, apart}
 use Rattle.rules.proofs.PathExample.{mine, theirs, aSync, aFollowUp}
 use Rattle.rules.specs.Service as service
 use Rattle.rtm.specs.Stamped.{StampedCall, handed, stamped, StampedStop, asStop, firstStamps, total, units}
@@ -37,9 +37,6 @@ pastWrap n = Ntp (record { seconds = 4294967295; fraction = 4294967295 }) (recor
 
 abbrev pub handedIn : Mode → List ℕ → Stamps → StampedCall
 handedIn m s stamps = record { mode = m; message = s; stamps = stamps; output = spare }
-
-abbrev pub new : Slots
-new = replicate 16 zeros
 
 -- the calls on the two
 abbrev syncFirst : StampedCall

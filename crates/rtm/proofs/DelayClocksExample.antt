@@ -14,12 +14,12 @@ use Rattle.records.specs.Node.{tick, call}
 use Rattle.rules.specs.Change.{padOf}
 use Rattle.rules.specs.Rules.{oneStep, twoStep, updated, passed, waiting, added}
 use Rattle.rules.specs.Path.{Unrefused, Apart, Every, of-delay, FirstWay, SecondWay}
-use Rattle.rules.proofs.Samples.{spare, visit, unrefused, first-halves, apart}
+use Rattle.rules.proofs.Samples.{new, spare, visit, unrefused, first-halves, apart}
 use Rattle.rules.proofs.DelayExample.{mine, request, response}
 use Rattle.rtm.specs.Stamped.{StampedCall, handed, StampedStop, asStop, firstStamps, total, units}
 use Rattle.rtm.proofs.Runs.{stamped-delay-path-sum}
 use Rattle.rtm.proofs.RoundedPaths.{path-rounded-down}
-use Rattle.rtm.proofs.ClocksExample.{nanoseconds, pastWrap, handedIn, new}
+use Rattle.rtm.proofs.ClocksExample.{nanoseconds, pastWrap, handedIn}
 
 abbrev requestFirst : StampedCall
 requestFirst = handedIn oneStep (request (pos 0)) (nanoseconds 1500)

@@ -2,10 +2,10 @@
 -- Assumes nothing.
 use Prim.Native.Nat.{ℕ, zero, suc, _+_}
 use mathlib.Core.Path.{_≡_, refl, ap, _∙_}
-use mathlib.Core.List.{List, [], _∷_, _++_, map, List·Permᴰ, List·Permᴰ·nil, List·Permᴰ·cons, List·Permᴰ·swap, List·Permᴰ·trans}
+use mathlib.Core.List.{List, [], _∷_, _++_, map, Permᴰ·map}
 use mathlib.Core.Logic.{_⊎_, inl, inr}
 use native.Mathlib.Omega.{arith}
-use lib.IntN.{ℤ, pos, _+ℤ_}
+use lib.IntN.{pos, _+ℤ_}
 use lib.ListN.{getElem?}
 use Rattle.refusal.specs.Answer.{Answer, value, refused}
 use Rattle.residence.specs.declared.Residence.{Residence}
@@ -89,11 +89,11 @@ pub stamped-eleven-withdrawn : StampedElevenWithdrawn
 stamped-eleven-withdrawn t n c = eleven-withdrawn t n (handed c)
 
 -- the residences of a path are those of the first message's stamps
-total-append : (f : Stamps → ℕ) (ss rs : List Stamps) → total f (ss ++ rs) ≡ total f ss + total f rs
+pub total-append : (f : Stamps → ℕ) (ss rs : List Stamps) → total f (ss ++ rs) ≡ total f ss + total f rs
 total-append f [] rs = omega arith
 total-append f (s ∷ ss) rs = omega (arith, total-append f ss rs)
 
-at-place : (es : List (Event StampedCall)) (k : ℕ) → unitsIn (getElem? (map handedEvent es) k) ≡ total units (stampsIn (getElem? es k))
+pub at-place : (es : List (Event StampedCall)) (k : ℕ) → unitsIn (getElem? (map handedEvent es) k) ≡ total units (stampsIn (getElem? es k))
 at-place [] k = refl
 at-place (tick ∷ es) zero = refl
 at-place (switchover ∷ es) zero = refl
@@ -109,14 +109,7 @@ pub stamped-path-sum : StampedPathSum
 stamped-path-sum q s start last path first second e h u w f c d =
     path-sum q s start last (map asStop path) first second e h u w f c d ∙ ap (λ (n : ℕ). padOf start +ℤ first +ℤ pos n) (along path)
 
--- nodes in another order
-stops-order : {fs ns : List StampedStop} → List·Permᴰ fs ns → List·Permᴰ (map asStop fs) (map asStop ns)
-stops-order List·Permᴰ·nil = List·Permᴰ·nil
-stops-order (List·Permᴰ·cons e p) = List·Permᴰ·cons (ap asStop e) (stops-order p)
-stops-order (List·Permᴰ·swap e₁ e₂) = List·Permᴰ·swap (ap asStop e₁) (ap asStop e₂)
-stops-order (List·Permᴰ·trans p q) = List·Permᴰ·trans (stops-order p) (stops-order q)
-
 pub stamped-delay-path-sum : StampedDelayPathSum
 stamped-delay-path-sum q request last response end path back e f h u w p v c d =
-    delay-path-sum q request last response end (map asStop path) (map asStop back) e f h u w (stops-order p) v c d
+    delay-path-sum q request last response end (map asStop path) (map asStop back) e f h u w (Permᴰ·map asStop p) v c d
     ∙ ap (λ (n : ℕ). padOf request +ℤ padOf response +ℤ pos n) (along path)

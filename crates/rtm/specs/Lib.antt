@@ -1,2 +1,3 @@
 pub mod Stamped
 pub mod Rounding
+pub mod Credited

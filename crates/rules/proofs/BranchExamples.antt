@@ -12,7 +12,7 @@ use lib.IntN.{ℤ, pos, negsuc, _+ℤ_}
 use lib.ListN.{take, replicate, getElem?}
 use Rattle.refusal.specs.Answer.{refused}
 use Rattle.residence.specs.declared.Residence.the-variants.{InvalidStamp}
-use Rattle.records.specs.Slots.{Slots, same, holds, zeros, find}
+use Rattle.records.specs.Slots.{same, holds, zeros, find}
 use Rattle.records.specs.Node.{Event, tick, call, switchover, replied, run, final}
 use Rattle.image.specs.Image.{sound, differ}
 use Rattle.rules.specs.Change.{padOf}
@@ -21,11 +21,8 @@ use Rattle.rules.specs.Path.{Stop, Unrefused, Apart, Every, FirstWay, Se
 use Rattle.rules.specs.Demand3.{Waiting}
 use Rattle.rules.proofs.Laws.{gone-at-third-tick}
 use Rattle.rules.proofs.PathSums.{path-sum}
-use Rattle.rules.proofs.Samples.{octetsOf, stayed, spare, handedIn, recordOf, visit, unrefused, not-created, waits, other, apart}
+use Rattle.rules.proofs.Samples.{new, octetsOf, stayed, spare, handedIn, recordOf, visit, unrefused, not-created, waits, other, apart}
 use Rattle.rules.proofs.PathExample.{mine, theirs, aSync}
-
-abbrev new : Slots
-new = replicate 16 zeros
 
 -- S set: one-step 1,500 ns, two-step 200 ns, two-step 50 ns for a Sync that starts below 0; its Follow_Up, with S clear, starts with
 -- 11 and comes to the third node first, then to the first, then to the second

@@ -4,18 +4,19 @@ use Prim.Native.Nat.{ℕ, _<_, _^_}
 use mathlib.Core.Path.{_≡_, refl, sym, ap, _∙_}
 use mathlib.Core.Bool.{Bool, true, false, not, cond, _||_}
 use mathlib.Core.List.{List, _++_}
-use mathlib.Core.Option.{Option, none, some}
+use mathlib.Core.Logic.{_⊎_, inl, inr}
+use mathlib.Core.Option.{Option, some}
 use native.Mathlib.Omega.{arith}
-use lib.Dec.{ltb, eqb}
+use lib.Dec.{ltb}
 use lib.IntN.{pos}
 use lib.ListN.{length, take, drop}
 use lib.Seq.{take-at}
 use Rattle.octets.specs.Octets.{number}
 use Rattle.refusal.specs.Answer.{Answer, value, refused}
-use Rattle.refusal.proofs.Answers.{not-both}
+use Rattle.refusal.proofs.Answers.{not-both, Numbered}
 use Rattle.residence.specs.declared.Residence.{Residence}
 use Rattle.residence.specs.Residence.{acceptedOf}
-use Rattle.residence.proofs.Limit.{below-limit}
+use Rattle.residence.proofs.Limit.{below-limit, NineOrTen, nine-or-ten}
 use Rattle.message.proofs.Sound.{SoundPtp}
 use Rattle.records.specs.declared.RecordKind.{RecordKind}
 use Rattle.records.specs.declared.RecordKind.the-variants.{Sync, Delay}
@@ -26,6 +27,7 @@ use Rattle.scratch_pad.proofs.Held.{raised-none, read-range}
 use Rattle.rules.specs.Change.{padOf, withTwoStep, followUpOf}
 use Rattle.rules.specs.Rules.{Kind, sync, followUp, delayReq, firstOf, secondOf, kindOf, kindIdentity, Mode, oneStep, twoStep, Call, Word, updated, passed, created, waiting, added, Reply, asItCame, addToPad, update, oneStepReply, createIn, create, keep, gather, twoStepReply, replyBy, keepRequest, twoStepRequest, requestBy, rules}
 use Rattle.rules.specs.Path.{First, of-sync, of-delay, unitsOf}
+use Rattle.rules.specs.Credited.{says}
 use Rattle.rules.proofs.Bearing.{Bears, sync-kind, follow-up-kind, sound-ptp, is-sync}
 use Rattle.rules.proofs.Changes.{with-pad-kind, with-two-step-bears, with-two-step-pad, follow-up-length, follow-up-pad, follow-up-bears}
 use Rattle.rules.proofs.Sums.{sum-in-range, sums-are-pads}
@@ -87,21 +89,7 @@ pub second-asks : (r : Residence) (x : RecordKind) (q : Identity) → twoStepReq
 second-asks r Sync q = refl
 second-asks r Delay q = refl
 
--- the words by number, to compare them
-abbrev wordNumber : Word → ℕ
-wordNumber updated = 0
-wordNumber passed = 1
-wordNumber created = 2
-wordNumber waiting = 3
-wordNumber added = 4
-
--- the answer is this word
-abbrev pub says : Word → Option (Answer Word) → Bool
-says w none = false
-says w (some (refused n)) = false
-says w (some (value v)) = eqb (wordNumber v) (wordNumber w)
-
--- a residence where it is, and else nothing
+-- a residence where the answer is this word, and else nothing
 abbrev pub when : Word → Option (Answer Word) → ℕ → ℕ
 when w o u = cond (says w o) u 0
 
@@ -147,25 +135,45 @@ pub data SecondSays : Mode → Answer Word → Type 0 where
   passed-second : SecondSays oneStep (value passed)
   added-second : SecondSays twoStep (value added)
 
+-- the numbers of a first message: the residence's, and at a two-step node 12 where that is a Sync with S clear, or else the table's
+abbrev pub OwnNumber : Answer ℕ → Bool → ℕ → Type 0
+OwnNumber table true i = i ≡ 12
+OwnNumber table false i = table ≡ refused i
+
+abbrev pub FirstGiven : Answer ℕ → Mode → Bool → ℕ → Type 0
+FirstGiven table m b i = NineOrTen i ⊎ ((m ≡ twoStep) × OwnNumber table b i)
+
+-- and of a second one: the table's at a two-step node
+abbrev pub SecondGiven : Answer ℕ → Mode → ℕ → Type 0
+SecondGiven table m i = (m ≡ twoStep) × (table ≡ refused i)
+
 module _ (c : Call) (table : Answer ℕ) (q : Identity) where
   pub record FirstCall {k : Kind} (m : Mode) (f : First q k) (r : Reply) : Type 0 where
     pub says-it : FirstSays m (clear f) (r .answer)
+    pub number : Numbered (FirstGiven table m (clear f)) (r .answer)
     pub kind : kindOf (r .message) ≡ next f (some (r .answer))
     pub pad : padOf (r .message) ≡ raised (padOf (c .message)) (when updated (some (r .answer)) (unitsOf (acceptedOf (c .residence))))
 
   -- a call that leaves the message as it came
   left :
       {k : Kind} (m : Mode) (f : First q k) (a : Answer Word) → kindOf (c .message) ≡ k → FirstSays m (clear f) a
-      → says created (some a) ≡ false → says updated (some a) ≡ false → FirstCall m f (asItCame c a)
-  left m f a e s n u =
+      → Numbered (FirstGiven table m (clear f)) a → says created (some a) ≡ false → says updated (some a) ≡ false → FirstCall m f (asItCame c a)
+  left m f a e s i n u =
       record {
         says-it = s;
+        number = i;
         kind = e ∙ sym (next-same f (some a) n);
         pad = same-pad (c .message) ∙ ap (λ (b : Bool). raised (padOf (c .message)) (cond b (unitsOf (acceptedOf (c .residence))) 0)) (sym u);
       }
 
-  not-taken : {k : Kind} (m : Mode) (f : First q k) (n : ℕ) → kindOf (c .message) ≡ k → FirstCall m f (asItCame c (refused n))
-  not-taken m f n e = left m f (refused n) e (refused-first m (clear f) n) refl refl
+  not-taken :
+      {k : Kind} (m : Mode) (f : First q k) (n : ℕ) → kindOf (c .message) ≡ k → FirstGiven table m (clear f) n → FirstCall m f (asItCame c (refused n))
+  not-taken m f n e i = left m f (refused n) e (refused-first m (clear f) n) i refl refl
+
+  not-measured :
+      {k : Kind} (m : Mode) (f : First q k) (n : ℕ) → kindOf (c .message) ≡ k → acceptedOf (c .residence) ≡ refused n
+      → FirstCall m f (asItCame c (refused n))
+  not-measured m f n e p = not-taken m f n e (inl (nine-or-ten (c .residence) n p))
 
   -- one-step: the first message is added to
   first-one : {k : Kind} (f : First q k) → c .mode ≡ oneStep → kindOf (c .message) ≡ k → FirstCall oneStep f (rules .reply c table)
@@ -178,46 +186,52 @@ module _ (c : Call) (table : Answer ℕ) (q : Identity) where
       m = sound-ptp (c .message) q (ap kindIdentity e ∙ first-identity f)
 
       go : (a : Answer ℕ) → acceptedOf (c .residence) ≡ a → FirstCall oneStep f (update c a)
-      go (refused n) p = not-taken oneStep f n e
+      go (refused n) p = not-measured oneStep f n e p
       go (value u) p =
           record {
             says-it = updated-first (clear f);
+            number = tt;
             kind = added-kind c updated u m ∙ e ∙ sym (next-same f (some (value updated)) refl);
             pad = added-pad c updated u m ∙ ap (λ (x : Answer ℕ). raised (padOf (c .message)) (unitsOf x)) (sym p);
           }
 
   -- two-step, S set, or a Delay_Req: the message stays
   first-two : (x : RecordKind) → c .mode ≡ twoStep → kindOf (c .message) ≡ firstOf x q → FirstCall twoStep (first-of x q) (rules .reply c table)
-  first-two x o e = rw (reply-is c table twoStep (firstOf x q) o e ∙ first-keeps c table x q) (go (acceptedOf (c .residence)) table)
+  first-two x o e = rw (reply-is c table twoStep (firstOf x q) o e ∙ first-keeps c table x q) (go (acceptedOf (c .residence)) table refl refl)
     where
       waits : (x : RecordKind) → FirstSays twoStep (clear (first-of x q)) (value waiting)
       waits Sync = waiting-first
       waits Delay = waiting-first
 
-      go : (a t : Answer ℕ) → FirstCall twoStep (first-of x q) (keep c a t)
-      go (refused n) t = not-taken twoStep (first-of x q) n e
-      go (value u) (refused n) = not-taken twoStep (first-of x q) n e
-      go (value u) (value v) = left twoStep (first-of x q) (value waiting) e (waits x) refl refl
+      tables : (x : RecordKind) (n : ℕ) → table ≡ refused n → OwnNumber table (clear (first-of x q)) n
+      tables Sync n p = p
+      tables Delay n p = p
+
+      go : (a t : Answer ℕ) → acceptedOf (c .residence) ≡ a → table ≡ t → FirstCall twoStep (first-of x q) (keep c a t)
+      go (refused n) t p r = not-measured twoStep (first-of x q) n e p
+      go (value u) (refused n) p r = not-taken twoStep (first-of x q) n e (inr (refl, tables x n r))
+      go (value u) (value v) p r = left twoStep (first-of x q) (value waiting) e (waits x) tt refl refl
 
   -- two-step, S clear: S is set
   sync-clear : c .mode ≡ twoStep → kindOf (c .message) ≡ sync q false → FirstCall twoStep (of-sync false) (rules .reply c table)
-  sync-clear o e = rw (reply-is c table twoStep (sync q false) o e) (go (acceptedOf (c .residence)))
+  sync-clear o e = rw (reply-is c table twoStep (sync q false) o e) (go (acceptedOf (c .residence)) refl)
     where
       m : Bears (c .message) 0 false q
       m = is-sync (c .message) false q e
 
       room : (u : ℕ) (t : Bool) → FirstCall twoStep (of-sync false) (createIn c u t)
-      room u true = not-taken twoStep (of-sync false) 12 e
+      room u true = not-taken twoStep (of-sync false) 12 e (inr (refl, refl))
       room u false =
           record {
             says-it = created-first;
+            number = tt;
             kind = sync-kind (withTwoStep (c .message)) true q (with-two-step-bears (c .message) 0 false q m);
             pad = with-two-step-pad (c .message) 0 false q m ∙ same-pad (c .message);
           }
 
-      go : (a : Answer ℕ) → FirstCall twoStep (of-sync false) (create c a)
-      go (refused n) = not-taken twoStep (of-sync false) n e
-      go (value u) = room u (ltb (length (c .output)) 36)
+      go : (a : Answer ℕ) → acceptedOf (c .residence) ≡ a → FirstCall twoStep (of-sync false) (create c a)
+      go (refused n) p = not-measured twoStep (of-sync false) n e p
+      go (value u) p = room u (ltb (length (c .output)) 36)
 
   pub first-call : {k : Kind} (f : First q k) (m : Mode) → c .mode ≡ m → kindOf (c .message) ≡ k → FirstCall m f (rules .reply c table)
   first-call f oneStep o e = first-one f o e
@@ -263,6 +277,7 @@ module _ (c : Call) (table : Answer ℕ) (q : Identity) where
   -- a second message, where a record that is found has the residence u
   pub record SecondCall (u : ℕ) (m : Mode) (x : RecordKind) (r : Reply) : Type 0 where
     pub says-it : SecondSays m (r .answer)
+    pub number : Numbered (SecondGiven table m) (r .answer)
     pub kind : kindOf (r .message) ≡ secondOf x q
     pub pad : padOf (r .message) ≡ raised (padOf (c .message)) (when added (some (r .answer)) u)
 
@@ -271,17 +286,18 @@ module _ (c : Call) (table : Answer ℕ) (q : Identity) where
       → (m ≡ twoStep → (v : ℕ) → table ≡ value v → v ≡ u)
       → SecondCall u m x (rules .reply c table)
   second-call u x oneStep o e found =
-      rw (reply-is c table oneStep (secondOf x q) o e ∙ second-passes c x q) (record { says-it = passed-second; kind = e; pad = same-pad (c .message) })
+      rw (reply-is c table oneStep (secondOf x q) o e ∙ second-passes c x q) (record { says-it = passed-second; number = tt; kind = e; pad = same-pad (c .message) })
   second-call u x twoStep o e found = rw (reply-is c table twoStep (secondOf x q) o e ∙ second-gathers c table x q) (go table refl)
     where
       m : SoundPtp (c .message)
       m = sound-ptp (c .message) q (ap kindIdentity e ∙ second-identity x q)
 
       go : (t : Answer ℕ) → table ≡ t → SecondCall u twoStep x (gather c t)
-      go (refused n) p = record { says-it = refused-second n; kind = e; pad = same-pad (c .message) }
+      go (refused n) p = record { says-it = refused-second n; number = (refl, p); kind = e; pad = same-pad (c .message) }
       go (value v) p =
           record {
             says-it = added-second;
+            number = tt;
             kind = added-kind c added v m ∙ e;
             pad = added-pad c added v m ∙ ap (raised (padOf (c .message))) (found refl v p);
           }

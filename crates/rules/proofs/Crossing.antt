@@ -1,31 +1,32 @@
--- One node of the path: what it answers to the two messages, and what the first one's residence there adds to their pads. A one-step node
--- puts it on the first, a two-step node on the second.
+-- One node of the path: what it answers to the first message and to the second, and what the first one's residence there adds to their pads.
+-- A one-step node puts it on the first, a two-step node on the second.
 -- Assumes nothing.
 use Prim.Native.Nat.{ℕ, _+_, _-_, _<_, _^_}
 use mathlib.Core.Path.{_≡_, refl, sym, ap, _∙_, subst}
 use mathlib.Core.Bool.{Bool, true, false}
 use mathlib.Core.List.{List}
 use mathlib.Core.Logic.{_⊎_, inl, inr}
-use mathlib.Core.Option.{Option, none, some}
+use mathlib.Core.Option.{some}
 use native.Mathlib.Omega.{arith}
 use native.Mathlib.Decide.{decLt}
 use borrow.Author.Tests.{lt-leb}
 use lib.IntN.{ℤ, pos}
 use lib.ListN.{getElem?, take}
 use Rattle.refusal.specs.Answer.{Answer, value, refused}
-use Rattle.refusal.proofs.Answers.{not-both}
+use Rattle.refusal.proofs.Answers.{not-both, Numbered}
 use Rattle.residence.specs.Residence.{acceptedOf}
 use Rattle.records.specs.declared.RecordKind.{RecordKind}
 use Rattle.records.specs.declared.Identity.{Identity}
 use Rattle.records.specs.Slots.{Slots, collectAnswer}
+use Rattle.records.specs.Ageing.{Waits}
 use Rattle.records.specs.Node.{Request, add, collect, tableAnswer, addLeaves, tableAfter, call, final}
 use Rattle.records.proofs.Alone.{absent-before, only-that}
 use Rattle.scratch_pad.specs.Sum.{raised}
 use Rattle.scratch_pad.proofs.Held.{raised-more}
 use Rattle.rules.specs.Change.{padOf}
-use Rattle.rules.specs.Rules.{Kind, sync, followUp, firstOf, secondOf, kindIdentity, kindOf, Mode, twoStep, Call, Word, updated, created, added, Reply, keepRequest, rules}
-use Rattle.rules.specs.Path.{Stop, Visit, Apart, Unrefused, First, of-sync, Uncrossed, answerIn, firstAnswer, secondAnswer, answerAt, unitsOf, unitsIn, residenceAt}
-use Rattle.rules.proofs.Calls.{request-is, first-of, first-asks, second-asks, says, when, clear, next, set-clear, FirstSays, refused-first, updated-first, created-first, waiting-first, SecondSays, refused-second, passed-second, added-second, first-call, sync-created, second-call}
+use Rattle.rules.specs.Rules.{Kind, sync, followUp, firstOf, secondOf, kindIdentity, kindOf, Mode, twoStep, Call, Word, updated, created, waiting, added, Reply, keep, gather, keepRequest, rules}
+use Rattle.rules.specs.Path.{Stop, Visit, Apart, First, answerIn, firstAnswer, secondAnswer, answerAt, unitsOf, unitsIn, residenceAt}
+use Rattle.rules.proofs.Calls.{reply-is, request-is, first-keeps, first-asks, second-gathers, second-asks, when, clear, next, FirstSays, created-first, FirstGiven, SecondSays, added-second, SecondGiven, first-call, sync-created, second-call}
 use Rattle.rules.proofs.Laws.{lawful, came-to, put-in}
 
 -- octets of this kind, with n more on the pad
@@ -45,7 +46,7 @@ module _ (n : Stop) (k : ℕ) (m : List ℕ) (r : Reply) (v : Visit n k m r) whe
   pub came : r ≡ rules .reply (v .handed) asked
   came = came-to (n .table) (n .events) k (v .handed) r (v .here) (v .outcome)
 
-  pub in-mode : (o : Mode) → n .mode ≡ o → v .handed .mode ≡ o
+  in-mode : (o : Mode) → n .mode ≡ o → v .handed .mode ≡ o
   in-mode o e = v .mode ∙ e
 
   pub of-kind : (x : Kind) → kindOf m ≡ x → kindOf (v .handed .message) ≡ x
@@ -72,6 +73,7 @@ module _ (q : Identity) (n : Stop) (s : List ℕ) (r : Reply) (v : Visit n (n .f
 
   pub record FirstAt {k : Kind} (f : First q k) : Type 0 where
     pub says-it : FirstSays (n .mode) (clear f) (r .answer)
+    pub number : Numbered (FirstGiven (asked n (n .firstPlace) s r v) (n .mode) (clear f)) (r .answer)
     pub grown : Grown (next f (firstAnswer n)) s (r .message) (updatedAt n)
 
   pub first-at : {k : Kind} (f : First q k) → kindOf s ≡ k → FirstAt f
@@ -84,6 +86,7 @@ module _ (q : Identity) (n : Stop) (s : List ℕ) (r : Reply) (v : Visit n (n .f
       let o : some (rules .reply c (asked n i s r v) .answer) ≡ firstAnswer n = ap some (sym z) ∙ sym answered-first in
       record {
         says-it = subst (λ (a : Answer Word). FirstSays (n .mode) (clear f) a) (sym z) (x .says-it);
+        number = subst (λ (a : Answer Word). Numbered (FirstGiven (asked n i s r v) (n .mode) (clear f)) a) (sym z) (x .number);
         grown =
             record {
               kind = ap (λ (y : Reply). kindOf (y .message)) g ∙ x .kind ∙ ap (next f) o;
@@ -114,7 +117,7 @@ module _ (q : Identity) (n : Stop) (s : List ℕ) (r : Reply) (v : Visit n (n .f
 pub creator : {m : Mode} {b : Bool} → FirstSays m b (value created) → (m ≡ twoStep) × (b ≡ true)
 creator created-first = (refl, refl)
 
--- ---- the second message at a node
+-- ---- the first message at a node that is ready for the second
 
 -- a node that the first message crosses, a Sync with S set or a Delay_Req
 pub record Ready (x : RecordKind) (q : Identity) (n : Stop) : Type 0 where
@@ -124,19 +127,86 @@ pub record Ready (x : RecordKind) (q : Identity) (n : Stop) : Type 0 where
   pub visit : Visit n (n .firstPlace) octets reply
   pub kind : kindOf octets ≡ firstOf x q
 
--- a record that the second message finds there is the first one's
-module _ (a : RecordKind) (q : Identity) (n : Stop) (y : Ready a q n) (k : ℕ) (place : n .secondPlace ≡ some k) (o : n .mode ≡ twoStep) (v : ℕ)
-    (found : tableAnswer (collect q) (final rules (n .table) (take k (n .events))) ≡ value v) where
-  abbrev adder : Call
-  adder = y .visit .handed
+abbrev pub adder : {a : RecordKind} {q : Identity} {n : Stop} → Ready a q n → Call
+adder y = y .visit .handed
 
-  abbrev before : ℕ → Slots
+-- the first message waited there with the residence v
+record Kept (n : Stop) (r : Reply) (v : ℕ) : Type 0 where
+  pub units-of-it : v ≡ residenceAt n
+  pub waited : r .answer ≡ value waiting
+
+-- the table before the event at place x, and a call there that leaves it as it came
+module _ (n : Stop) where
+  abbrev pub before : ℕ → Slots
   before x = final rules (n .table) (take x (n .events))
 
-  -- a call at place x leaves the table as it came
-  abbrev Leaves : ℕ → Call → Type 0
+  abbrev pub Leaves : ℕ → Call → Type 0
   Leaves x c = tableAfter (rules .request c) (before x) ≡ before x
 
+-- a place has one call
+pub same-call : {c d : Call} → some (call c) ≡ some (call d) → c ≡ d
+same-call e = cc
+
+pub is-first : (a : RecordKind) (q : Identity) (n : Stop) (y : Ready a q n) → kindOf (adder y .message) ≡ firstOf a q
+is-first a q n y = ap kindOf (y .visit .octets) ∙ y .kind
+
+-- what a two-step node's call on the first message asks
+module _ (a : RecordKind) (q : Identity) (n : Stop) (y : Ready a q n) (o : n .mode ≡ twoStep) where
+  in-two-step : adder y .mode ≡ twoStep
+  in-two-step = y .visit .mode ∙ o
+
+  pub asks : rules .request (adder y) ≡ keepRequest q (acceptedOf (adder y .residence))
+  asks = request-is (adder y) twoStep (firstOf a q) in-two-step (is-first a q n y) ∙ first-asks (adder y .residence) a q
+
+  -- and is answered
+  keeps : y .reply ≡ keep (adder y) (acceptedOf (adder y .residence)) (tableAnswer (rules .request (adder y)) (before n (n .firstPlace)))
+  keeps =
+      let i = n .firstPlace in
+      let t = asked n i (y .octets) (y .reply) (y .visit) in
+      came n i (y .octets) (y .reply) (y .visit)
+      ∙ reply-is (adder y) t twoStep (firstOf a q) in-two-step (is-first a q n y)
+      ∙ first-keeps (adder y) t a q
+
+  asks-to-add : (u : ℕ) → acceptedOf (adder y .residence) ≡ value u → rules .request (adder y) ≡ add q u
+  asks-to-add u e = asks ∙ ap (keepRequest q) e
+
+  -- "waiting" where the table takes its residence, and only there
+  pub record Taken : Type 0 where
+    pub units-taken : ℕ
+    pub accepted : acceptedOf (adder y .residence) ≡ value units-taken
+    pub into-slot : tableAnswer (add q units-taken) (before n (n .firstPlace)) ≡ value 0
+
+  taken-waits : Taken → y .reply .answer ≡ value waiting
+  taken-waits t =
+      let T = before n (n .firstPlace) in
+      let g : tableAnswer (rules .request (adder y)) T ≡ value 0 =
+      ap (λ (r : Request). tableAnswer r T) (asks-to-add (t .units-taken) (t .accepted)) ∙ t .into-slot in
+      ap (λ (r : Reply). r .answer) (keeps ∙ (λ j. keep (adder y) (t .accepted j) (g j)))
+
+  pub waiting-taken : y .reply .answer ≡ value waiting → Taken
+  waiting-taken w = go (acceptedOf (adder y .residence)) refl
+    where
+      T : Slots
+      T = before n (n .firstPlace)
+
+      go : (b : Answer ℕ) → acceptedOf (adder y .residence) ≡ b → Taken
+      go (refused i) e =
+          let t = tableAnswer (rules .request (adder y)) T in
+          absurd (not-both (sym (ap (λ (r : Reply). r .answer) (keeps ∙ ap (λ (b : Answer ℕ). keep (adder y) b t) e)) ∙ w))
+      go (value u) e = record { units-taken = u; accepted = e; into-slot = put-in q u T (λ i g. not-both (sym (refusing i g) ∙ w)) }
+        where
+          refusing : (i : ℕ) → tableAnswer (add q u) T ≡ refused i → y .reply .answer ≡ refused i
+          refusing i g =
+              let t : tableAnswer (rules .request (adder y)) T ≡ refused i = ap (λ (r : Request). tableAnswer r T) (asks-to-add u e) ∙ g in
+              ap (λ (r : Reply). r .answer) (keeps ∙ (λ j. keep (adder y) (e j) (t j)))
+
+-- ---- the second message at a node
+
+-- a node that adds is two-step
+adder-mode : {m : Mode} → SecondSays m (value added) → m ≡ twoStep
+adder-mode added-second = refl
+
+module _ (a : RecordKind) (q : Identity) (n : Stop) (y : Ready a q n) (k : ℕ) (place : n .secondPlace ≡ some k) (o : n .mode ≡ twoStep) where
   -- the calls of the identity before place k
   others : (x : ℕ) (c : Call) → x < k → getElem? (n .events) x ≡ some (call c) → kindIdentity (kindOf (c .message)) ≡ some q → x ≡ n .firstPlace
   others x c l h g = by (y .apart .others x c h g)
@@ -145,79 +215,87 @@ module _ (a : RecordKind) (q : Identity) (n : Stop) (y : Ready a q n) (k : ℕ) 
       by (inl z) = z
       by (inr z) = let w : x ≡ k = cc in absurd (omega arith)
 
-  -- none is found where the first message's call is not before k, or leaves the table as it came
-  absent : ((x : ℕ) (c : Call) → x < k → x ≡ n .firstPlace → getElem? (n .events) x ≡ some (call c) → Leaves x c) → v ≡ residenceAt n
-  absent h =
-      let f = absent-before rules lawful (n .table) (n .events) q k (y .apart .free) (λ x c l e g. h x c l (others x c l e g) e) in
-      absurd (not-both (sym (ap collectAnswer f) ∙ found))
-
-  nothing-kept : Leaves (n .firstPlace) adder → v ≡ residenceAt n
-  nothing-kept h = absent (λ x c l z e. same x c z e)
-    where
-      out : {c d : Call} → some (call c) ≡ some (call d) → c ≡ d
-      out e = cc
-
-      same : (x : ℕ) (c : Call) → x ≡ n .firstPlace → getElem? (n .events) x ≡ some (call c) → Leaves x c
-      same x c z e =
-          let f : adder ≡ c = out (sym (y .visit .here) ∙ ap (getElem? (n .events)) (sym z) ∙ e) in
-          subst (Leaves x) f (subst (λ (j : ℕ). Leaves j adder) (sym z) h)
-
-  asks : rules .request adder ≡ keepRequest q (acceptedOf (adder .residence))
-  asks =
-      request-is adder twoStep (firstOf a q) (y .visit .mode ∙ o) (ap kindOf (y .visit .octets) ∙ y .kind) ∙ first-asks (adder .residence) a q
-
-  -- or the call puts its residence in
-  kept : n .firstPlace < k → (u : ℕ) → acceptedOf (adder .residence) ≡ value u → (w : Answer ℕ) → tableAnswer (add q u) (before (n .firstPlace)) ≡ w → v ≡ residenceAt n
-  kept l u e (refused m) g =
-      let t = before (n .firstPlace) in
-      nothing-kept (ap (λ (r : Request). tableAfter r t) (asks ∙ ap (keepRequest q) e) ∙ ap (addLeaves q u t) g)
-  kept l u e (value m) g =
-      only-that rules lawful (n .table) (n .events) q u (n .firstPlace) k
-      (record {
-        adder = adder;
+  -- the first message's record, from its place to k
+  pub record-waits : (t : Taken a q n y o) → n .firstPlace < k → Waits rules (n .table) (n .events) q (t .units-taken) (n .firstPlace) k
+  record-waits t l =
+      record {
+        adder = adder y;
         here = y .visit .here;
-        asks = asks ∙ ap (keepRequest q) e;
-        taken = put-in q u (before (n .firstPlace)) (λ j f. not-both (sym f ∙ g));
+        asks = asks-to-add a q n y o (t .units-taken) (t .accepted);
+        taken = t .into-slot;
         before = l;
         alone = λ x c s b h i. omega (arith, others x c b h i);
-      })
-      v found
-      ∙ sym (ap unitsOf e)
-      ∙ units q n (y .octets) (y .reply) (y .visit)
+      }
 
-  after : n .firstPlace < k → (b : Answer ℕ) → acceptedOf (adder .residence) ≡ b → v ≡ residenceAt n
-  after l (refused m) e = nothing-kept (ap (λ (r : Request). tableAfter r (before (n .firstPlace))) (asks ∙ ap (keepRequest q) e))
-  after l (value u) e = kept l u e (tableAnswer (add q u) (before (n .firstPlace))) refl
+  -- a record that the second message finds there is the first one's
+  module _ (v : ℕ) (found : tableAnswer (collect q) (before n k) ≡ value v) where
+    -- none is found where the first message's call is not before k, or leaves the table as it came
+    absent : ((x : ℕ) (c : Call) → x < k → x ≡ n .firstPlace → getElem? (n .events) x ≡ some (call c) → Leaves n x c) → ⊥
+    absent h =
+        let f = absent-before rules lawful (n .table) (n .events) q k (y .apart .free) (λ x c l e g. h x c l (others x c l e g) e) in
+        not-both (sym (ap collectAnswer f) ∙ found)
 
-  pub the-record : v ≡ residenceAt n
-  the-record = go (decLt (n .firstPlace) k)
-    where
-      go : Dec (n .firstPlace < k) → v ≡ residenceAt n
-      go (yes l) = after l (acceptedOf (adder .residence)) refl
-      go (no l) = absent (λ x c b z e. absurd (omega arith))
+    nothing-kept : Leaves n (n .firstPlace) (adder y) → ⊥
+    nothing-kept h = absent (λ x c l z e. same x c z e)
+      where
+        same : (x : ℕ) (c : Call) → x ≡ n .firstPlace → getElem? (n .events) x ≡ some (call c) → Leaves n x c
+        same x c z e =
+            let f : adder y ≡ c = same-call (sym (y .visit .here) ∙ ap (getElem? (n .events)) (sym z) ∙ e) in
+            subst (Leaves n x) f (subst (λ (j : ℕ). Leaves n j (adder y)) (sym z) h)
+
+    -- or the call puts its residence in
+    taken : (b : Answer ℕ) → acceptedOf (adder y .residence) ≡ b → Taken a q n y o
+    taken (refused m) e =
+        absurd (nothing-kept (ap (λ (r : Request). tableAfter r (before n (n .firstPlace))) (asks a q n y o ∙ ap (keepRequest q) e)))
+    taken (value u) e =
+        let T = before n (n .firstPlace) in
+        let left : (i : ℕ) → tableAnswer (add q u) T ≡ refused i → Leaves n (n .firstPlace) (adder y) =
+        λ i g. ap (λ (r : Request). tableAfter r T) (asks-to-add a q n y o u e) ∙ ap (addLeaves q u T) g in
+        record { units-taken = u; accepted = e; into-slot = put-in q u T (λ i g. nothing-kept (left i g)) }
+
+    the-record : Kept n (y .reply) v
+    the-record = go (decLt (n .firstPlace) k) (taken (acceptedOf (adder y .residence)) refl)
+      where
+        go : Dec (n .firstPlace < k) → Taken a q n y o → Kept n (y .reply) v
+        go (no l) t = absurd (absent (λ x c b z e. absurd (omega arith)))
+        go (yes l) t =
+            record {
+              units-of-it =
+                  only-that rules lawful (n .table) (n .events) q (t .units-taken) (n .firstPlace) k (record-waits t l) v found
+                  ∙ sym (ap unitsOf (t .accepted))
+                  ∙ units q n (y .octets) (y .reply) (y .visit);
+              waited = taken-waits a q n y o t;
+            }
 
 module _ (a : RecordKind) (q : Identity) (n : Stop) (y : Ready a q n) (k : ℕ) (place : n .secondPlace ≡ some k) (f : List ℕ) (r : Reply) (v : Visit n k f r) (e : kindOf f ≡ secondOf a q) where
-  answered-second : secondAnswer n ≡ some (r .answer)
+  pub answered-second : secondAnswer n ≡ some (r .answer)
   answered-second = ap (answerAt n) place ∙ ap answerIn (v .outcome)
 
   pub record SecondAt : Type 0 where
     pub says-it : SecondSays (n .mode) (r .answer)
+    pub number : Numbered (SecondGiven (asked n k f r v) (n .mode)) (r .answer)
     pub grown : Grown (secondOf a q) f (r .message) (addedAt n)
+
+  pub is-second : kindOf (v .handed .message) ≡ secondOf a q
+  is-second = of-kind n k f r v (secondOf a q) e
+
+  -- what a two-step node asks and finds for it
+  pub collects : n .mode ≡ twoStep → rules .request (v .handed) ≡ collect q
+  collects o = request-is (v .handed) twoStep (secondOf a q) (v .mode ∙ o) is-second ∙ second-asks (v .handed .residence) a q
+
+  finds : n .mode ≡ twoStep → (u : ℕ) → asked n k f r v ≡ value u → Kept n (y .reply) u
+  finds o u g = the-record a q n y k place o u (sym (ap (λ (z : Request). tableAnswer z (before n k)) (collects o)) ∙ g)
 
   pub second-at : SecondAt
   second-at =
       let c = v .handed in
-      let T = final rules (n .table) (take k (n .events)) in
-      let kind = of-kind n k f r v (secondOf a q) e in
-      let x =
-      second-call c (asked n k f r v) q (residenceAt n) a (n .mode) (v .mode) kind
-      (λ o u g. the-record a q n y k place o u
-      (sym (ap (λ (z : Request). tableAnswer z T) (request-is c twoStep (secondOf a q) (v .mode ∙ o) kind ∙ second-asks (c .residence) a q)) ∙ g)) in
+      let x = second-call c (asked n k f r v) q (residenceAt n) a (n .mode) (v .mode) is-second (λ o u g. finds o u g .units-of-it) in
       let g = came n k f r v in
       let z : r .answer ≡ rules .reply c (asked n k f r v) .answer = ap (λ (w : Reply). w .answer) g in
       let o : some (rules .reply c (asked n k f r v) .answer) ≡ secondAnswer n = ap some (sym z) ∙ sym answered-second in
       record {
         says-it = subst (λ (b : Answer Word). SecondSays (n .mode) b) (sym z) (x .says-it);
+        number = subst (λ (b : Answer Word). Numbered (SecondGiven (asked n k f r v) (n .mode)) b) (sym z) (x .number);
         grown =
             record {
               kind = ap (λ (w : Reply). kindOf (w .message)) g ∙ x .kind;
@@ -228,59 +306,19 @@ module _ (a : RecordKind) (q : Identity) (n : Stop) (y : Ready a q n) (k : ℕ) 
             };
       }
 
--- ---- both at a node
+  pub gathers : n .mode ≡ twoStep → r ≡ gather (v .handed) (asked n k f r v)
+  gathers o =
+      came n k f r v
+      ∙ reply-is (v .handed) (asked n k f r v) twoStep (secondOf a q) (v .mode ∙ o) is-second
+      ∙ second-gathers (v .handed) (asked n k f r v) a q
 
--- what a node may answer to the two, where the second crosses it and where it does not
-pub data Says : Mode → Option (Answer Word) → Option (Answer Word) → Type 0 where
-  says-both : {m : Mode} {a b : Answer Word} → FirstSays m false a → SecondSays m b → Says m (some a) (some b)
-  says-first : {m : Mode} {a : Answer Word} → FirstSays m true a → Says m (some a) none
+  -- what is added waited
+  pub added-waited : r .answer ≡ value added → y .reply .answer ≡ value waiting
+  added-waited h = go (asked n k f r v) refl (sym (ap (λ (w : Reply). w .answer) (gathers two-step)) ∙ h)
+    where
+      two-step : n .mode ≡ twoStep
+      two-step = adder-mode (subst (λ (b : Answer Word). SecondSays (n .mode) b) h (second-at .says-it))
 
-abbrev pub SaysAt : Stop → Type 0
-SaysAt n = Says (n .mode) (firstAnswer n) (secondAnswer n)
-
-says-at : (n : Stop) {o p : Option (Answer Word)} → firstAnswer n ≡ o → secondAnswer n ≡ p → Says (n .mode) o p → SaysAt n
-says-at n {o} e f h =
-    subst (λ (x : Option (Answer Word)). Says (n .mode) x (secondAnswer n)) (sym e)
-    (subst (λ (x : Option (Answer Word)). Says (n .mode) o x) (sym f) h)
-
--- where neither is refused the residence goes on one of the two pads
-once : {m : Mode} {o p : Option (Answer Word)} (u : ℕ) → Says m o p → ((i : ℕ) → o ≡ some (refused i) → ⊥) → ((i : ℕ) → p ≡ some (refused i) → ⊥)
-    → when updated o u + (when created o u + when added p u) ≡ u
-once u (says-both (refused-first m b i) s) f g = absurd (f i refl)
-once u (says-both (updated-first b) passed-second) f g = omega arith
-once u (says-both waiting-first (refused-second i)) f g = absurd (g i refl)
-once u (says-both waiting-first added-second) f g = omega arith
-once u (says-first (refused-first m b i)) f g = absurd (f i refl)
-once u (says-first (updated-first b)) f g = omega arith
-once u (says-first created-first) f g = omega arith
-
-pub counted-once : (n : Stop) → SaysAt n → Unrefused n → updatedAt n + (createdAt n + addedAt n) ≡ residenceAt n
-counted-once n s u = once (residenceAt n) s (u .0) (u .1)
-
-none-created : {m : Mode} {a : Answer Word} → FirstSays m false a → says created (some a) ≡ false
-none-created (refused-first m b i) = refl
-none-created (updated-first b) = refl
-none-created waiting-first = refl
-
-module _ (a : RecordKind) (q : Identity) (n : Stop) (y : Ready a q n) where
-  first-says : FirstSays (n .mode) false (y .reply .answer)
-  first-says =
-      subst (λ (b : Bool). FirstSays (n .mode) b (y .reply .answer)) (set-clear a q)
-      (first-at q n (y .octets) (y .reply) (y .visit) (first-of a q) (y .kind) .says-it)
-
-  -- nothing is created there
-  pub uncreated : says created (firstAnswer n) ≡ false
-  uncreated = ap (says created) (answered-first q n (y .octets) (y .reply) (y .visit)) ∙ none-created first-says
-
-  pub crossed : (k : ℕ) → n .secondPlace ≡ some k → (f : List ℕ) (r : Reply) → Visit n k f r → kindOf f ≡ secondOf a q → SaysAt n
-  crossed k place f r v e =
-      says-at n (answered-first q n (y .octets) (y .reply) (y .visit)) (answered-second a q n y k place f r v e)
-      (says-both first-says (second-at a q n y k place f r v e .says-it))
-
-pub uncrossed :
-    (q : Identity) (n : Stop) (s : List ℕ) (r : Reply) → Visit n (n .firstPlace) s r → kindOf s ≡ sync q false → Uncrossed n
-    → SaysAt n × (addedAt n ≡ 0)
-uncrossed q n s r v e u = (
-  says-at n (answered-first q n s r v) (ap (answerAt n) u) (says-first (first-at q n s r v (of-sync false) e .says-it)),
-  ap (λ (k : Option ℕ). when added (answerAt n k) (residenceAt n)) u,
-)
+      go : (t : Answer ℕ) → asked n k f r v ≡ t → gather (v .handed) t .answer ≡ value added → y .reply .answer ≡ value waiting
+      go (refused i) g s = absurd (not-both s)
+      go (value u) g s = finds two-step u g .waited

@@ -1,6 +1,6 @@
 -- What the bounds on the final pads are for: paths of one node that meet every other premise of the path's sum. At a one-step node a
 -- Sync comes within 1 ns of the largest pad and leaves with it; at a two-step node a Follow_Up, or a Delay_Resp, has it from the start.
--- Every call is answered, none is refused, and the sums part.
+-- Every call is answered, none is refused, every node is credited, and the sums part.
 -- Assumes nothing.
 use Prim.Native.Nat.{ℕ, _+_, _-_, _^_}
 use mathlib.Core.Path.{_≡_, refl, ap}
@@ -18,6 +18,7 @@ use Rattle.scratch_pad.proofs.Whole.{above}
 use Rattle.rules.specs.Change.{padOf}
 use Rattle.rules.specs.Rules.{Mode, oneStep, twoStep, Call, updated, passed, waiting, added}
 use Rattle.rules.specs.Path.{Stop, Unrefused, Apart, FirstWay, SecondWay, FollowUps, existing, residences}
+use Rattle.rules.specs.Credited.{credits}
 use Rattle.rules.proofs.Samples.{octetsOf, stayed, spare, handedIn, visit, unrefused, apart}
 use Rattle.rules.proofs.PathExample.{mine}
 use Rattle.rules.proofs.DelayExample as delay
@@ -60,6 +61,10 @@ one-premises = (
 one-too-big : tooBig (padOf (aSync largest)) ≡ true
 one-too-big = refl
 
+one-credited : credits (one ∷ []) ≡ residences (one ∷ [])
+unfolding same holds
+one-credited = refl
+
 one-parts : padOf (aSync largest) +ℤ pos 0 ≡ padOf (aSync below) +ℤ pos 0 +ℤ pos (residences (one ∷ [])) → ⊥
 one-parts e = let z : 2 ^ 63 - 1 ≡ 2 ^ 63 - 2 + 65536 = ap above e in omega arith
 
@@ -80,6 +85,10 @@ two-premises = (
 
 two-too-big : tooBig (padOf (aFollowUp largest)) ≡ true
 two-too-big = refl
+
+two-credited : credits (two ∷ []) ≡ residences (two ∷ [])
+unfolding same holds
+two-credited = refl
 
 two-parts : padOf (aSync (pos 0)) +ℤ largest ≡ padOf (aSync (pos 0)) +ℤ largest +ℤ pos (residences (two ∷ [])) → ⊥
 two-parts e = let z : 2 ^ 63 - 1 ≡ 2 ^ 63 - 1 + 65536 = ap above e in omega arith
@@ -111,6 +120,10 @@ three-premises = (
   FirstWay.cross (visit three 0 asking waiting (delay.request (pos 0)) spare refl refl refl) FirstWay.done,
   SecondWay.cross 2 refl (visit three 2 answering added (delay.response largest) spare refl refl refl) SecondWay.done,
 )
+
+three-credited : credits (three ∷ []) ≡ residences (three ∷ [])
+unfolding same holds
+three-credited = refl
 
 three-parts :
     padOf (delay.request (pos 0)) +ℤ padOf (delay.response largest)

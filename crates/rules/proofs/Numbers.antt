@@ -11,11 +11,11 @@ use native.Mathlib.Omega.{arith}
 use borrow.Author.Tests.{ltb-true}
 use lib.Dec.{ltb, leb, eqb}
 use lib.ListN.{length}
-use Rattle.refusal.specs.Answer.{Answer, value, refused, refuse}
-use Rattle.refusal.proofs.Answers.{Numbered, its-number}
+use Rattle.refusal.specs.Answer.{Answer, value, refused}
+use Rattle.refusal.proofs.Answers.{Numbered, its-number, numbered-by}
 use Rattle.residence.specs.declared.Residence.{Residence}
-use Rattle.residence.specs.declared.Residence.the-variants.{Units, InvalidStamp, TooLong}
-use Rattle.residence.specs.Residence.{limit, acceptedOf}
+use Rattle.residence.specs.Residence.{acceptedOf}
+use Rattle.residence.proofs.Limit.{NineOrTen, nine-or-ten}
 use Rattle.message.specs.declared.fields.SubTlv.{SubTlv}
 use Rattle.message.specs.Read.{Message, plain, ptp, readOf}
 use Rattle.message.proofs.Numbers.{read-numbers}
@@ -40,13 +40,11 @@ high c n a b = inr (inr (a, b))
 -- in either mode: the numbers of the residence, and of a message that the reader refuses
 module _ (m : Mode) (c : Call) where
   accepted-fine : (r : Residence) → Fine m c (acceptedOf r)
-  accepted-fine (Units u) = go (leb limit u)
+  accepted-fine r = numbered-by (GivenAt m c) (acceptedOf r) (λ n e. by n (nine-or-ten r n e))
     where
-      go : (b : Bool) → Fine m c (refuse 10 b (value u))
-      go true = low m c 10 (omega arith) (omega arith)
-      go false = tt
-  accepted-fine InvalidStamp = low m c 9 (omega arith) (omega arith)
-  accepted-fine TooLong = low m c 10 (omega arith) (omega arith)
+      by : (n : ℕ) → NineOrTen n → GivenAt m c n
+      by n (inl e) = low m c n (omega arith) (omega arith)
+      by n (inr e) = low m c n (omega arith) (omega arith)
 
   abbrev Read : Kind → Type 0
   Read (sync q s) = Unit {0}

@@ -19,8 +19,10 @@ use Rattle.scratch_pad.proofs.Held.{raised-more}
 use Rattle.rules.specs.Change.{padOf}
 use Rattle.rules.specs.Rules.{Kind, sync, firstOf, secondOf, kindOf, Word, updated, passed, created, waiting, added, Reply}
 use Rattle.rules.specs.Path.{Stop, ReplyAt, Visit, Apart, Every, First, of-sync, FirstWay, SecondWay, Uncrossed, FollowUps, existing, born, never, firstAnswer, residenceAt}
-use Rattle.rules.proofs.Calls.{same-pad, first-of, says, next, next-first, set-next, FirstSays}
-use Rattle.rules.proofs.Crossing.{Grown, grown-more, updatedAt, createdAt, addedAt, answered-first, first-at, sync-creates, creator, Ready, second-at, SaysAt, uncreated, crossed, uncrossed}
+use Rattle.rules.specs.Credited.{says, someCreated}
+use Rattle.rules.proofs.Calls.{same-pad, first-of, next, next-first, set-next, FirstSays}
+use Rattle.rules.proofs.Crossing.{Grown, grown-more, updatedAt, createdAt, addedAt, answered-first, first-at, sync-creates, creator, Ready, second-at}
+use Rattle.rules.proofs.Answered.{Answered, uncreated, crossed, uncrossed}
 
 -- ---- sums over the nodes, and what holds of each
 
@@ -74,10 +76,10 @@ abbrev pub onSecond : Stop → ℕ
 onSecond n = createdAt n + addedAt n
 
 -- the two pads at the start and at the end of a path, and what its nodes answered
-pub record Pads (ns : List Stop) (first first′ second second′ : ℤ) : Type 0 where
+pub record Pads (q : Identity) (ns : List Stop) (first first′ second second′ : ℤ) : Type 0 where
   pub first-pad : first′ ≡ raised first (total updatedAt ns)
   pub second-pad : second′ ≡ raised second (total onSecond ns)
-  pub says-each : Every SaysAt ns
+  pub each : Every (Answered q) ns
 
 -- the first message, over its nodes in the path's order
 module _ {q : Identity} where
@@ -91,11 +93,6 @@ module _ {q : Identity} where
       let g = first-at q n s r v f e .grown in
       let o = firstAnswer n in
       grown-more (next f o) (evolved (next-first f o) ns) s (r .message) last (updatedAt n) (total updatedAt ns) g (first-way (next-first f o) (g .kind) w)
-
--- some node answered the Sync with "created"
-abbrev pub someCreated : List Stop → Bool
-someCreated [] = false
-someCreated (n ∷ ns) = says created (firstAnswer n) || someCreated ns
 
 -- a Sync's S at the end: set where it was, or a node created
 pub sync-end : (q : Identity) (b : Bool) (ns : List Stop) → evolved {q = q} (of-sync b) ns ≡ sync q (b || someCreated ns)
@@ -115,7 +112,7 @@ module _ (a : RecordKind) (q : Identity) where
   -- the second message, over its nodes in its own order
   second-way :
       {f last : List ℕ} {fs : List Stop} → kindOf f ≡ secondOf a q → Every (Ready a q) fs → SecondWay f fs last
-      → Grown (secondOf a q) f last (total addedAt fs) × Every SaysAt fs
+      → Grown (secondOf a q) f last (total addedAt fs) × Every (Answered q) fs
   second-way {f} e h SecondWay.done = (record { kind = e; pad = same-pad f }, tt)
   second-way {last = last} e h (SecondWay.cross {n = n} {ns = ns} {f = f} {r = r} k place v w) =
       let g = second-at a q n (h .0) k place f r v e .grown in
@@ -130,7 +127,7 @@ module _ (a : RecordKind) (q : Identity) where
   -- two messages that cross the same nodes
   pub pair-pads :
       (s last f end : List ℕ) (ns fs : List Stop) → kindOf s ≡ firstOf a q → kindOf f ≡ secondOf a q → Every (Apart q) ns
-      → FirstWay s ns last → List·Permᴰ fs ns → SecondWay f fs end → Pads ns (padOf s) (padOf last) (padOf f) (padOf end)
+      → FirstWay s ns last → List·Permᴰ fs ns → SecondWay f fs end → Pads q ns (padOf s) (padOf last) (padOf f) (padOf end)
   pair-pads s last f end ns fs e g h w p v =
       let y = ready-way e h w in
       let x = second-way g (every-order (Ready a q) p y) v in
@@ -138,28 +135,29 @@ module _ (a : RecordKind) (q : Identity) where
       record {
         first-pad = first-way (first-of a q) e w .pad;
         second-pad = x .0 .pad ∙ ap (raised (padOf f)) (total-order addedAt p ∙ t);
-        says-each = every-back SaysAt p (x .1);
+        each = every-back (Answered q) p (x .1);
       }
 
 -- ---- a Sync and its Follow_Up
 
-module _ (q : Identity) where
-  split : (s last : List ℕ) (ns ms : List Stop) → FirstWay s (ns ++ ms) last → (m : List ℕ) × FirstWay s ns m × FirstWay m ms last
-  split s last [] ms w = (s, FirstWay.done, w)
-  split s last (n ∷ ns) ms (FirstWay.cross {r = r} v w) =
-      let x : (m : List ℕ) × FirstWay (r .message) ns m × FirstWay m ms last = split (r .message) last ns ms w in
-      (x .0, FirstWay.cross v (x .1), x .2)
+-- a way over two lists of nodes
+pub split : (s last : List ℕ) (ns ms : List Stop) → FirstWay s (ns ++ ms) last → (m : List ℕ) × FirstWay s ns m × FirstWay m ms last
+split s last [] ms w = (s, FirstWay.done, w)
+split s last (n ∷ ns) ms (FirstWay.cross {r = r} v w) =
+    let x : (m : List ℕ) × FirstWay (r .message) ns m × FirstWay m ms last = split (r .message) last ns ms w in
+    (x .0, FirstWay.cross v (x .1), x .2)
 
+module _ (q : Identity) where
   -- as long as no node creates nothing goes on the second message's pad
   clear-way :
       {s last : List ℕ} {ns : List Stop} → kindOf s ≡ sync q false → someCreated ns ≡ false → Every Uncrossed ns → FirstWay s ns last
-      → Every SaysAt ns × (total onSecond ns ≡ 0)
+      → Every (Answered q) ns × (total onSecond ns ≡ 0)
   clear-way e c h FirstWay.done = (tt, refl)
   clear-way e c h (FirstWay.cross {n = n} {ns = ns} {s = s} {r = r} v w) = go (says created (firstAnswer n)) refl c (λ g d. clear-way g d (h .1) w)
     where
       go : (b : Bool) → says created (firstAnswer n) ≡ b → b || someCreated ns ≡ false
-          → (kindOf (r .message) ≡ sync q false → someCreated ns ≡ false → Every SaysAt ns × (total onSecond ns ≡ 0))
-          → Every SaysAt (n ∷ ns) × (onSecond n + total onSecond ns ≡ 0)
+          → (kindOf (r .message) ≡ sync q false → someCreated ns ≡ false → Every (Answered q) ns × (total onSecond ns ≡ 0))
+          → Every (Answered q) (n ∷ ns) × (onSecond n + total onSecond ns ≡ 0)
       go true p d on = absurd (true≢false d)
       go false p d on =
           let x = uncrossed q n s r v e (h .0) in
@@ -176,7 +174,7 @@ module _ (q : Identity) where
       (p : List·Permᴰ fs after)
       (v : SecondWay (take 36 (r .output)) fs end) where
     abbrev Claim : Type 0
-    Claim = (padOf end ≡ raised (pos 0) (total onSecond (before ++ n ∷ after))) × Every SaysAt (before ++ n ∷ after)
+    Claim = (padOf end ≡ raised (pos 0) (total onSecond (before ++ n ∷ after))) × Every (Answered q) (before ++ n ∷ after)
 
     from-there :
         (m : List ℕ) → FirstWay s before m → kindOf s ≡ sync q false → kindOf m ≡ sync q (someCreated before) → Visit n (n .firstPlace) m r
@@ -198,7 +196,7 @@ module _ (q : Identity) where
               ∙ ap (λ (j : ℤ). raised j (total onSecond after)) (f .1)
               ∙ raised-more (pos 0) (residenceAt n) (total onSecond after)
               ∙ ap (raised (pos 0)) t,
-          every-both SaysAt before (n ∷ after) (z .0) (i .0, y .says-each),
+          every-both (Answered q) before (n ∷ after) (z .0) (i .0, y .each),
         )
 
     born-pads : ReplyAt n (n .firstPlace) r → kindOf s ≡ sync q false → FirstWay s (before ++ n ∷ after) last → Claim
@@ -233,9 +231,9 @@ module _ (q : Identity) where
 
   second-pads :
       (b : Bool) (s last : List ℕ) (ns : List Stop) (x y : ℤ) → kindOf s ≡ sync q b → Every (Apart q) ns → FirstWay s ns last → FollowUps q b ns x y
-      → (y ≡ raised x (total onSecond ns)) × Every SaysAt ns
+      → (y ≡ raised x (total onSecond ns)) × Every (Answered q) ns
   second-pads b s last ns x y e h w (existing {fs = fs} {f = f} {last = end} k p v) =
-      let z = pair-pads Sync q s last f end ns fs e k h w p v in (z .second-pad, z .says-each)
+      let z = pair-pads Sync q s last f end ns fs e k h w p v in (z .second-pad, z .each)
   second-pads b s last ns x y e h w (born before n {after} {fs} {r} {last = end} us u at a p v) =
       born-pads s last end before after fs n r h us u a p v at e w
   second-pads b s last ns x y e h w (never all) =
@@ -244,7 +242,7 @@ module _ (q : Identity) where
 
   pub sync-pads :
       (b : Bool) (s last : List ℕ) (ns : List Stop) (x y : ℤ) → kindOf s ≡ sync q b → Every (Apart q) ns → FirstWay s ns last → FollowUps q b ns x y
-      → Pads ns (padOf s) (padOf last) x y
+      → Pads q ns (padOf s) (padOf last) x y
   sync-pads b s last ns x y e h w f =
       let z = second-pads b s last ns x y e h w f in
-      record { first-pad = first-way (of-sync b) e w .pad; second-pad = z .0; says-each = z .1 }
+      record { first-pad = first-way (of-sync b) e w .pad; second-pad = z .0; each = z .1 }

@@ -1,9 +1,9 @@
--- For the worked examples of demand 3: messages of type 3, calls on them, the answers of a run, every place of a list in turn, and two orders.
+-- For the worked examples of demand 3 and of W-213: messages of type 3, calls on them, the answers of a run, every place of a list in turn, and two orders.
 -- Assumes nothing.
 use Prim.Native.Nat.{ℕ, zero, suc, _*_, _<_}
 use mathlib.Core.Path.{_≡_, refl, sym, ap, subst, _∙_}
-use mathlib.Core.Bool.{Bool, true, false, true≢false}
-use mathlib.Core.List.{List, [], _∷_, map}
+use mathlib.Core.Bool.{Bool, false, true≢false}
+use mathlib.Core.List.{List, [], _∷_, _++_, map}
 use mathlib.Core.Logic.{_⊎_, inl, inr}
 use mathlib.Core.Option.{Option, none, some, Option·none-ne-some}
 use native.Mathlib.Omega.{arith}
@@ -19,14 +19,15 @@ use Rattle.message.specs.Write.{ptpOctets}
 use Rattle.records.specs.declared.RecordKind.the-variants.{Sync}
 use Rattle.records.specs.declared.Identity.{Identity}
 use Rattle.records.specs.declared.Record.{Record}
-use Rattle.records.specs.Slots.{Slots, same, find}
+use Rattle.records.specs.Slots.{Slots, same, zeros, find}
 use Rattle.records.specs.Node.{Event, tick, call, switchover, Result, told, replied, taken-over, run}
 use Rattle.records.specs.Order.{ticks, Reordered, NoWant}
 use Rattle.records.proofs.Holding.{same-refl}
 use Rattle.rules.specs.Rules.{firstOf, secondOf, kindOf, kindIdentity, Mode, twoStep, Call, Word, created, waiting, asItCame, Reply, rules}
 use Rattle.rules.specs.Path.{Stop, ReplyAt, firstAnswer, secondAnswer, FirstUnrefused, Unrefused, Visit, Apart, Every}
 use Rattle.rules.specs.Demand3.{Waiting}
-use Rattle.rules.proofs.Calls.{says}
+use Rattle.rules.specs.Credited.{says}
+use Rattle.rules.proofs.Answered.{isRefused, not-refused}
 use Rattle.rules.proofs.Pads.{every-map}
 
 -- the identity of document 01's cases, and others of its port: port 00 01 02 03 04 05 06 07 00 01
@@ -58,6 +59,14 @@ handedIn m s r = record { mode = m; message = s; residence = r; output = spare }
 abbrev pub recordOf : Identity → ℕ → Record
 recordOf q w = record { kind = q .kind; clock = q .clock; port = q .port; sequence = q .sequence; residence = 7; wait = w }
 
+-- a new table, and a table's records of k identities, from sequence n on
+abbrev pub new : Slots
+new = replicate 16 zeros
+
+abbrev pub recordsFrom : ℕ → ℕ → Slots
+recordsFrom zero n = []
+recordsFrom (suc k) n = recordOf (numbered n) 3 ∷ recordsFrom k (suc n)
+
 -- what a run tells and answers, octets aside
 abbrev answered : Result Reply → Result (Answer Word)
 answered (told n) = told n
@@ -67,27 +76,44 @@ answered taken-over = taken-over
 abbrev pub answers : List (Result Reply) → List (Result (Answer Word))
 answers rs = map answered rs
 
+-- what a node answered to the two: a word, or a number
+abbrev pub answersOf : Stop → Option (Answer Word) × Option (Answer Word)
+answersOf n = (firstAnswer n, secondAnswer n)
+
+abbrev pub said : Word → Option (Answer Word)
+said w = some (value w)
+
+abbrev pub refusedWith : ℕ → Option (Answer Word)
+refusedWith a = some (refused a)
+
 -- what comes of a call, from what computing shows
 abbrev pub after : Word → List ℕ → List ℕ → Reply
 after w message output = record { answer = value w; message = message; output = output }
 
-pub visit :
-    (n : Stop) (k : ℕ) (c : Call) (w : Word) (m out : List ℕ)
-    → getElem? (n .events) k ≡ some (call c)
-    → c .mode ≡ n .mode
-    → ReplyAt n k (after w m out)
-    → Visit n k (c .message) (after w m out)
-visit n k c w m out here mode outcome =
-    record { handed = c; here = here; mode = mode; octets = refl; outcome = outcome }
+module _ (n : Stop) (k : ℕ) (c : Call) where
+  visit-of : (r : Reply) → getElem? (n .events) k ≡ some (call c) → c .mode ≡ n .mode → ReplyAt n k r → Visit n k (c .message) r
+  visit-of r here mode outcome = record { handed = c; here = here; mode = mode; octets = refl; outcome = outcome }
+
+  pub visit :
+      (w : Word) (m out : List ℕ)
+      → getElem? (n .events) k ≡ some (call c)
+      → c .mode ≡ n .mode
+      → ReplyAt n k (after w m out)
+      → Visit n k (c .message) (after w m out)
+  visit w m out = visit-of (after w m out)
+
+  -- and of one that is refused
+  pub refusing :
+      (a : ℕ)
+      → getElem? (n .events) k ≡ some (call c)
+      → c .mode ≡ n .mode
+      → ReplyAt n k (asItCame c (refused a))
+      → Visit n k (c .message) (asItCame c (refused a))
+  refusing a = visit-of (asItCame c (refused a))
 
 -- answers that are no refusal, and one that is not "created"
-abbrev isRefused : Option (Answer Word) → Bool
-isRefused none = false
-isRefused (some (value w)) = false
-isRefused (some (refused n)) = true
-
 pub unrefused : (n : Stop) → isRefused (firstAnswer n) ≡ false → isRefused (secondAnswer n) ≡ false → Unrefused n
-unrefused n f g = (λ a e. true≢false (sym (ap isRefused e) ∙ f), λ a e. true≢false (sym (ap isRefused e) ∙ g))
+unrefused n f g = (not-refused f, not-refused g)
 
 pub first-halves : (ns : List Stop) → Every Unrefused ns → Every FirstUnrefused ns
 first-halves ns h = every-map Unrefused FirstUnrefused (λ n u. u .0) ns h
@@ -152,6 +178,21 @@ Placed q n k (call c) = kindIdentity (kindOf (c .message)) ≡ some q → (k ≡
 
 pub apart : (q : Identity) (n : Stop) → find q (n .table) ≡ none → Each (Placed q n) (n .events) → Apart q n
 apart q n free h = record { free = free; others = λ k c. each (Placed q n) (n .events) h k (call c) }
+
+-- a node that gets a call on the first message, k ticks, and a call on the second
+abbrev pub ticksBetween : ℕ → Mode → Slots → Call → Call → Stop
+ticksBetween k m t c d =
+    record { mode = m; table = t; events = call c ∷ replicate k tick ++ call d ∷ []; firstPlace = 0; secondPlace = some (suc k) }
+
+pub apart-between : (q : Identity) (k : ℕ) (m : Mode) (t : Slots) (c d : Call) → find q t ≡ none → Apart q (ticksBetween k m t c d)
+apart-between q k m t c d free = apart q n free (λ e. inl refl, behind (λ x. Placed q n (suc x)) k (λ x. tt) (λ e. inr refl))
+  where
+    n : Stop
+    n = ticksBetween k m t c d
+
+    behind : (P : ℕ → Event Call → Type 0) (j : ℕ) → ((x : ℕ) → P x tick) → P j (call d) → Each P (replicate j tick ++ call d ∷ [])
+    behind P zero ticking last = (last, tt)
+    behind P (suc j) ticking last = (ticking 0, behind (λ x. P (suc x)) j (λ x. ticking (suc x)) last)
 
 -- ---- two orders
 

@@ -24,8 +24,8 @@ use Rattle.rules.specs.Path.{Stop, Unrefused, Apart, Every, FirstWay, Se
 -- First half. "Let no call on the two be refused .. Then, whatever other calls, refused ones too, and ticks those nodes get, the sum of
 -- the final pads is the sum of the starting pads plus every stay of the Sync, a missing Follow_Up counting 0." It "holds where both final
 -- pads are below 2^63-1" (document 02, W-205). The sums are of whole numbers; the path has any length, also none. That the Follow_Up
--- reaches each node after the Sync and before its record there ages out need not be asked: a call on it that is early or late is refused
--- with 15.
+-- reaches each node after the Sync and before its record there ages out need not be asked: a two-step node refuses a call on it that is
+-- early or late with 15 (`Credited` LostWhereRefused). What the sum is where calls are refused: `Credited` CreditedSum.
 abbrev pub PathSum : Type 0
 PathSum =
     (q : Identity) (s : Bool) (start last : List ℕ) (path : List Stop) (first second : ℤ)
