@@ -39,22 +39,22 @@ abbrev pub handedIn : Mode → List ℕ → Stamps → StampedCall
 handedIn m s stamps = record { mode = m; message = s; stamps = stamps; output = spare }
 
 -- the calls on the two
-abbrev syncFirst : StampedCall
+abbrev pub syncFirst : StampedCall
 syncFirst = handedIn oneStep (aSync false 0) (nanoseconds 1500)
 
-abbrev syncSecond : StampedCall
+abbrev pub syncSecond : StampedCall
 syncSecond = handedIn twoStep (aSync false 98304000) (pastWrap 0)
 
-abbrev syncThird : StampedCall
+abbrev pub syncThird : StampedCall
 syncThird = handedIn twoStep (aSync true 98304000) (pastWrap 2)
 
 abbrev followUpThird : StampedCall
 followUpThird = handedIn twoStep (aFollowUp 15258) (nanoseconds 1000000000)
 
-abbrev first : StampedStop
+abbrev pub first : StampedStop
 first = record { mode = oneStep; table = new; events = call syncFirst ∷ []; firstPlace = 0; secondPlace = none }
 
-abbrev second : StampedStop
+abbrev pub second : StampedStop
 second = record { mode = twoStep; table = new; events = call syncSecond ∷ []; firstPlace = 0; secondPlace = none }
 
 -- here calls have stamps of both formats
@@ -78,7 +78,7 @@ abbrev path : List StampedStop
 path = first ∷ second ∷ third ∷ []
 
 -- the output that the second node leaves
-abbrev left : List ℕ
+abbrev pub left : List ℕ
 left = aFollowUp 15258 ++ replicate 4 0
 
 sync-way : FirstWay (aSync false 0) (map asStop path) (aSync true 98304000)

@@ -1,20 +1,19 @@
 -- What remains true when calls with stamps are refused. A Sync with S clear: updated with PTP stamps, refused for an invalid one, created with
 -- NTP stamps, and a Follow_Up that is late at the last node. A Delay_Req that is refused where its stamps are 5 s apart.
 -- Assumes nothing.
-use Prim.Native.Nat.{ℕ, _+_}
+use Prim.Native.Nat.{_+_}
 use mathlib.Core.Path.{_≡_, refl}
 use mathlib.Core.Bool.{true, false, _||_}
-use mathlib.Core.List.{List, [], _∷_, _++_, map, Permᴰ·refl, Permᴰ·reverse}
+use mathlib.Core.List.{List, [], _∷_, map, Permᴰ·refl, Permᴰ·reverse}
 use mathlib.Core.Logic.{inl, inr}
 use mathlib.Core.Option.{none, some}
 use lib.IntN.{pos, _+ℤ_}
-use lib.ListN.{replicate}
 use Rattle.stamp.specs.declared.stamps.Stamps.{Stamps}
 use Rattle.stamp.specs.declared.stamps.Stamps.the-variants.{Ptp}
 use Rattle.records.specs.Slots.{same, holds}
 use Rattle.records.specs.Node.{tick, call}
 use Rattle.rules.specs.Change.{padOf}
-use Rattle.rules.specs.Rules.{sync, kindOf, oneStep, twoStep, updated, created, waiting, added}
+use Rattle.rules.specs.Rules.{sync, kindOf, twoStep, updated, created, waiting, added}
 use Rattle.rules.specs.Path.{Apart, Every, FirstWay, SecondWay, FollowUps, born}
 use Rattle.rules.specs.Credited.{someCreated}
 use Rattle.rules.proofs.Samples.{new, spare, answersOf, said, refusedWith, after, visit, refusing, apart}
@@ -23,74 +22,55 @@ use Rattle.rules.proofs.DelayExample as delay
 use Rattle.rtm.specs.Stamped.{StampedCall, handed, StampedStop, asStop, firstStamps, total, units}
 use Rattle.rtm.specs.Credited.{creditedStamps}
 use Rattle.rtm.proofs.CreditedPaths.{stamped-credited-sum, stamped-delay-credited-sum}
-use Rattle.rtm.proofs.ClocksExample.{nanoseconds, pastWrap, handedIn}
+use Rattle.rtm.proofs.ClocksExample.{nanoseconds, pastWrap, handedIn, syncFirst, syncSecond, syncThird, first, second, left}
 
 -- ---- a Sync and its Follow_Up
 
-abbrev syncFirst : StampedCall
-syncFirst = handedIn oneStep (aSync false 0) (nanoseconds 1500)
+-- the path of ClocksExample, with a node between its first two whose stamp is invalid, and another last one, at which the Follow_Up is late
+abbrev badStamp : StampedCall
+badStamp = handedIn twoStep (aSync false 98304000) (nanoseconds 1000000000)
 
-abbrev syncSecond : StampedCall
-syncSecond = handedIn twoStep (aSync false 98304000) (nanoseconds 1000000000)
+abbrev refusedThere : StampedStop
+refusedThere = record { mode = twoStep; table = new; events = call badStamp ∷ []; firstPlace = 0; secondPlace = none }
 
-abbrev syncThird : StampedCall
-syncThird = handedIn twoStep (aSync false 98304000) (pastWrap 0)
+abbrev followUpLate : StampedCall
+followUpLate = handedIn twoStep (aFollowUp 15258) (nanoseconds 9)
 
-abbrev syncFourth : StampedCall
-syncFourth = handedIn twoStep (aSync true 98304000) (pastWrap 2)
-
-abbrev followUpFourth : StampedCall
-followUpFourth = handedIn twoStep (aFollowUp 15258) (nanoseconds 9)
-
-abbrev first : StampedStop
-first = record { mode = oneStep; table = new; events = call syncFirst ∷ []; firstPlace = 0; secondPlace = none }
-
-abbrev second : StampedStop
-second = record { mode = twoStep; table = new; events = call syncSecond ∷ []; firstPlace = 0; secondPlace = none }
-
-abbrev third : StampedStop
-third = record { mode = twoStep; table = new; events = call syncThird ∷ []; firstPlace = 0; secondPlace = none }
-
-abbrev fourth : StampedStop
-fourth =
-    record { mode = twoStep; table = new; events = call syncFourth ∷ tick ∷ tick ∷ tick ∷ call followUpFourth ∷ []; firstPlace = 0; secondPlace = some 4 }
+abbrev late : StampedStop
+late = record { mode = twoStep; table = new; events = call syncThird ∷ tick ∷ tick ∷ tick ∷ call followUpLate ∷ []; firstPlace = 0; secondPlace = some 4 }
 
 abbrev path : List StampedStop
-path = first ∷ second ∷ third ∷ fourth ∷ []
+path = first ∷ refusedThere ∷ second ∷ late ∷ []
 
 they-answer :
     map answersOf (map asStop path) ≡ (said updated, none) ∷ (refusedWith 9, none) ∷ (said created, none) ∷ (said waiting, refusedWith 15) ∷ []
 unfolding same holds
 they-answer = refl
 
--- the output that the third node leaves
-abbrev left : List ℕ
-left = aFollowUp 15258 ++ replicate 4 0
-
 sync-way : FirstWay (aSync false 0) (map asStop path) (aSync true 98304000)
 unfolding same holds
 sync-way =
     FirstWay.cross (visit (asStop first) 0 (handed syncFirst) updated (aSync false 98304000) spare refl refl refl)
-    (FirstWay.cross (refusing (asStop second) 0 (handed syncSecond) 9 refl refl refl)
-    (FirstWay.cross (visit (asStop third) 0 (handed syncThird) created (aSync true 98304000) left refl refl refl)
-    (FirstWay.cross (visit (asStop fourth) 0 (handed syncFourth) waiting (aSync true 98304000) spare refl refl refl) FirstWay.done)))
+    (FirstWay.cross (refusing (asStop refusedThere) 0 (handed badStamp) 9 refl refl refl)
+    (FirstWay.cross (visit (asStop second) 0 (handed syncSecond) created (aSync true 98304000) left refl refl refl)
+    (FirstWay.cross (visit (asStop late) 0 (handed syncThird) waiting (aSync true 98304000) spare refl refl refl) FirstWay.done)))
 
 follow-ups : FollowUps mine false (map asStop path) (pos 0) (padOf (aFollowUp 15258))
 unfolding same holds
 follow-ups =
-    born (asStop first ∷ asStop second ∷ []) (asStop third) {r = after created (aSync true 98304000) left} {last = aFollowUp 15258} (refl, (refl, tt))
-    refl refl refl (Permᴰ·refl (asStop fourth ∷ []))
-    (SecondWay.cross 4 refl (refusing (asStop fourth) 4 (handed followUpFourth) 15 refl refl refl) SecondWay.done)
+    born (asStop first ∷ asStop refusedThere ∷ []) (asStop second) {r = after created (aSync true 98304000) left} {last = aFollowUp 15258} (refl, (refl, tt))
+    refl refl refl (Permᴰ·refl (asStop late ∷ []))
+    (SecondWay.cross 4 refl (refusing (asStop late) 4 (handed followUpLate) 15 refl refl refl) SecondWay.done)
 
 all-apart : Every (Apart mine) (map asStop path)
 unfolding same holds
 all-apart = (
   apart mine (asStop first) refl (λ e. inl refl, tt),
   (
-    apart mine (asStop second) refl (λ e. inl refl, tt),
+    apart mine (asStop refusedThere) refl (λ e. inl refl, tt),
     (
-      apart mine (asStop third) refl (λ e. inl refl, tt),
-      (apart mine (asStop fourth) refl (λ e. inl refl, (tt, (tt, (tt, (λ e. inr refl, tt))))), tt),
+      apart mine (asStop second) refl (λ e. inl refl, tt),
+      (apart mine (asStop late) refl (λ e. inl refl, (tt, (tt, (tt, (λ e. inr refl, tt))))), tt),
     ),
   ),
 )

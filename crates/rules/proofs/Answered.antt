@@ -15,7 +15,8 @@ use Rattle.rules.specs.Rules.{sync, secondOf, kindOf, Mode, twoStep, Wor
 use Rattle.rules.specs.Path.{Stop, Visit, of-sync, Uncrossed, firstAnswer, secondAnswer, answerAt, residenceAt}
 use Rattle.rules.specs.Credited.{says, counts, creditAt, FirstNumber, Missed, Cost}
 use Rattle.rules.proofs.Calls.{when, FirstSays, refused-first, updated-first, created-first, waiting-first, FirstGiven, SecondSays, refused-second, passed-second, added-second, SecondGiven}
-use Rattle.rules.proofs.Crossing.{asked, of-kind, updatedAt, createdAt, addedAt, answered-first, first-at, Ready, answered-second, SecondAt, second-at, added-waited}
+use Rattle.rules.proofs.Crossing.{asked, of-kind, updatedAt, createdAt, addedAt, answered-first, first-at}
+use Rattle.rules.proofs.Collecting.{Ready, answered-second, SecondAt, second-at, added-waited}
 use Rattle.rules.proofs.Refusals.{from-table, answered, first-says, first-given, first-number, second-number, missed-refused, refused-missed}
 
 -- what a node may answer to the two, where the second crosses it and where it does not; what is added waited

@@ -8,6 +8,7 @@ pub mod Laws
 pub mod Serves
 pub mod Below
 pub mod Crossing
+pub mod Collecting
 pub mod Refusals
 pub mod Answered
 pub mod Pads

@@ -21,7 +21,8 @@ use Rattle.rules.specs.Rules.{Kind, sync, firstOf, secondOf, kindOf, Wor
 use Rattle.rules.specs.Path.{Stop, ReplyAt, Visit, Apart, Every, First, of-sync, FirstWay, SecondWay, Uncrossed, FollowUps, existing, born, never, firstAnswer, residenceAt}
 use Rattle.rules.specs.Credited.{says, someCreated}
 use Rattle.rules.proofs.Calls.{same-pad, first-of, next, next-first, set-next, FirstSays}
-use Rattle.rules.proofs.Crossing.{Grown, grown-more, updatedAt, createdAt, addedAt, answered-first, first-at, sync-creates, creator, Ready, second-at}
+use Rattle.rules.proofs.Crossing.{Grown, grown-more, updatedAt, createdAt, addedAt, answered-first, first-at, sync-creates, creator}
+use Rattle.rules.proofs.Collecting.{Ready, second-at}
 use Rattle.rules.proofs.Answered.{Answered, uncreated, crossed, uncrossed}
 
 -- ---- sums over the nodes, and what holds of each

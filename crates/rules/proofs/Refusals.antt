@@ -25,7 +25,8 @@ use Rattle.rules.specs.Rules.{sync, firstOf, secondOf, kindOf, Mode, two
 use Rattle.rules.specs.Path.{Stop, Visit, firstAnswer}
 use Rattle.rules.specs.Credited.{ComesClear, FirstNumber, Missed}
 use Rattle.rules.proofs.Calls.{first-of, set-clear, FirstSays, refused-first, updated-first, waiting-first, FirstGiven, SecondGiven}
-use Rattle.rules.proofs.Crossing.{asked, answered-first, FirstAt, first-at, Ready, adder, before, Leaves, same-call, is-first, asks, waiting-taken, record-waits, is-second, collects, gathers, added-waited}
+use Rattle.rules.proofs.Crossing.{asked, answered-first, FirstAt, first-at}
+use Rattle.rules.proofs.Collecting.{Ready, adder, before, Leaves, same-call, is-first, asks, waiting-taken, record-waits, is-second, collects, gathers, added-waited}
 use Rattle.rules.proofs.Laws.{lawful}
 
 -- the first message of a pair whose second is there is no Sync with S clear, nor is it the second
