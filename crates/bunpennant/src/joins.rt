@@ -2,10 +2,8 @@
 use egress::Joined;
 use message::layout;
 ghost use mathlib.Core.Path.{_≡_};
-ghost use Prim.Native.Nat.{_≤_};
-ghost use lib.ListN.{length};
-ghost use Rattle.message.specs.Read.{readOf, packetAt};
 ghost use Rattle.egress.specs.Join.{joinOf};
+ghost use Rattle.egress.specs.Pair.{Whole};
 ghost use Rattle.bunpennant.specs.C.{told, putJoined, joinTold};
 
 // Which message's packet is shown.
@@ -15,7 +13,7 @@ const OF_FOLLOW_UP: u64 = 1;
 
 // The total, and the packet of a message of types 2 to 4.
 fn put_joined(joined: &mut [u64; 4], total: i64, which: u64, message: &[u8])
-    requires { ⌜ (packetAt (length (now message)) (readOf (now message)) ≡ 36) × (36 ≤ length (now message)) ⌝ }
+    requires { ⌜ Whole (now message) ⌝ }
     ensures { λ _. ⌜ now (joined .exit) ≡ putJoined (now (joined .entry)) total which (now (message .entry)) ⌝ }
 {
     joined[0] = octets::unsigned(total);

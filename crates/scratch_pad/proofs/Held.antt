@@ -50,7 +50,7 @@ held-plain z h = go (tooBig z) refl h
     go false e f = refl
 
 -- what is held is in the range, where it is not below it
-held-range : (z : ℤ) → below z ≤ 2 ^ 63 → inRange (held z) ≡ true
+pub held-range : (z : ℤ) → below z ≤ 2 ^ 63 → inRange (held z) ≡ true
 held-range (negsuc n) h = lt-ltb n (2 ^ 63) (omega arith)
 held-range (pos n) h = go (leb (2 ^ 63 - 1) n) refl
   where

@@ -7,7 +7,7 @@ use mir.Val.{ofZ}
 use mir.ValLaws.{toZ-ofZ}
 use Rattle.message.specs.Read.{readOf, packetAt}
 use Rattle.bunpennant.specs.C.{putJoined}
-use Rattle.bunpennant.proofs.Pairs.{packet-length}
+use Rattle.egress.proofs.JoinedPair.{packet-length}
 use borrow.Author.Needs.{needs}
 use Rattle.bunpennant.proofs.joins.put_joined.Statement.{statement}
 use Rattle.bunpennant.proofs.joins.put_joined.Tie as tie

@@ -12,7 +12,7 @@ use mir.ValLaws.{toZ-ofZ}
 use Rattle.message.specs.Read.{carriedOf}
 use Rattle.egress.specs.Join.{joinAnswer}
 use Rattle.bunpennant.specs.C.{told, putJoined, joinedBy, joinTold}
-use Rattle.bunpennant.proofs.Pairs.{joined-pair, packet-length}
+use Rattle.egress.proofs.JoinedPair.{joined-pair, packet-length}
 use borrow.Author.Needs.{needs}
 use Rattle.bunpennant.proofs.joins.rtm_join.Statement.{statement}
 use Rattle.bunpennant.proofs.joins.rtm_join.Tie as tie
