@@ -1,7 +1,7 @@
 /*
  * A Sync with S set and its Follow_Up cross a one-step node and a two-step node. Between the two there is a
- * tick, and the two-step node's card is switched over. The egress joins them. Exit status 0 if all is as
- * expected.
+ * tick, and the two-step node's card is switched over. The egress joins them and corrects the PTP packet that
+ * they carry. Exit status 0 if all is as expected.
  */
 #include "bunpennant.h"
 #include <inttypes.h>
@@ -53,12 +53,38 @@ static void show_table(const char *where, const struct rtm_table *table, int exp
     expect(rtm_waiting(table), expected);
 }
 
-static size_t write_message(uint8_t *message, size_t room, uint8_t ptp_type, const char *packet) {
+/* The packets: IPv4 and UDP headers, which are zeros here, and a PTP message. */
+enum { PTP = 28, PACKET = PTP + 44, CORRECTION = PTP + 8 };
+
+/* A number, big-endian. */
+static void put_number(uint8_t *at, uint64_t number, int size) {
+    for (; size > 0; size--, number >>= 8) at[size - 1] = (uint8_t)number;
+}
+
+static int64_t correction_in(const uint8_t *packet) {
+    uint64_t number = 0;
+    int i;
+    for (i = 0; i < 8; i++) number = number << 8 | packet[CORRECTION + i];
+    return (int64_t)number;
+}
+
+/* A PTP message of version 2 of the same exchange as an RTM message, with 2 ns in its correctionField. */
+static void lay_packet(uint8_t *packet, const struct rtm_fields *fields) {
+    memset(packet, 0, PACKET);
+    packet[PTP] = fields->ptp_type;
+    packet[PTP + 1] = 2;
+    put_number(packet + PTP + 2, PACKET - PTP, 2);
+    put_number(packet + CORRECTION, 2 * 65536, 8);
+    put_number(packet + PTP + 20, fields->clock, 8);
+    put_number(packet + PTP + 28, fields->port, 2);
+    put_number(packet + PTP + 30, fields->sequence, 2);
+}
+
+static size_t write_message(uint8_t *message, size_t room, uint8_t ptp_type) {
     struct rtm_fields fields;
-    size_t size = 0, packet_size = strlen(packet);
-    uint8_t octets[64];
+    size_t size = 0;
+    uint8_t packet[PACKET];
     memset(&fields, 0, sizeof fields);
-    memcpy(octets, packet, packet_size);
     fields.type = 3;
     fields.clock = UINT64_C(0x0001020304050607);
     fields.port = 1;
@@ -66,8 +92,28 @@ static size_t write_message(uint8_t *message, size_t room, uint8_t ptp_type, con
     fields.length = 20;
     fields.two_step = true;
     fields.ptp_type = ptp_type;
-    expect(rtm_write(&fields, octets, packet_size, message, room, &size), 0);
+    lay_packet(packet, &fields);
+    expect(rtm_write(&fields, packet, sizeof packet, message, room, &size), 0);
     return size;
+}
+
+/* Corrects a copy of the packet that a joined pair carries. Its UDP checksum would be made anew here. */
+static void correct_packet(const uint8_t *sync, size_t sync_size, const uint8_t *follow_up,
+                           size_t follow_up_size, const struct rtm_joined *joined) {
+    const uint8_t *shown = (joined->message == RTM_OF_SYNC ? sync : follow_up) + joined->packet.offset;
+    const size_t behind = CORRECTION + 8;
+    uint8_t copy[PACKET];
+    bool same;
+    expect((int64_t)joined->packet.length, PACKET);
+    if (joined->packet.length != PACKET) return;
+    memcpy(copy, shown, PACKET);
+    expect(rtm_correct(sync, sync_size, follow_up, follow_up_size, PTP, copy, PACKET), 0);
+    same = memcmp(copy, shown, CORRECTION) == 0 && memcmp(copy + behind, shown + behind, PACKET - behind) == 0;
+    printf("%-13s correctionField %" PRId64 " ns, was %" PRId64 " ns; %s\n", "  the packet",
+           correction_in(copy) / 65536, correction_in(shown) / 65536,
+           same ? "all else is as it was" : "more changed");
+    expect(correction_in(copy), 1702 * 65536);
+    expect(same, true);
 }
 
 int main(void) {
@@ -80,7 +126,7 @@ int main(void) {
     size_t sync_size, follow_up_size, image_size = 0, old_size = 0;
     uint8_t answer;
 
-    sync_size = write_message(sync, sizeof sync, 0, "a packet");
+    sync_size = write_message(sync, sizeof sync, 0);
     show("ingress", 0, 0, sync, sync_size, 0);
     answer = rtm_one_step(sync, sync_size, RTM_PTP, entry_a, exit_a);
     show("one-step", answer, RTM_UPDATED, sync, sync_size, 1500);
@@ -101,7 +147,7 @@ int main(void) {
     printf("%-13s image of %zu octets, %zu in the old form\n", "switchover", image_size, old_size);
     show_table("  standby", &standby, 1);
 
-    follow_up_size = write_message(follow_up, sizeof follow_up, 8, "its follow-up");
+    follow_up_size = write_message(follow_up, sizeof follow_up, 8);
     show("ingress", 0, 0, follow_up, follow_up_size, 0);
     answer = rtm_one_step(follow_up, follow_up_size, RTM_PTP, entry_a, exit_a);
     show("one-step", answer, RTM_PASSED, follow_up, follow_up_size, 0);
@@ -116,5 +162,6 @@ int main(void) {
            joined.total / 65536, joined.message == RTM_OF_SYNC ? "Sync" : "Follow_Up", joined.packet.length,
            joined.packet.offset);
     expect(joined.total, 1700 * 65536);
+    correct_packet(sync, sync_size, follow_up, follow_up_size, &joined);
     return wrong;
 }

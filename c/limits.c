@@ -129,6 +129,9 @@ static void no_octets(void) {
     CHECK(rtm_image_to_old(new_image, 26, NULL, 0, &size) == RTM_OUTPUT_TOO_SMALL && size == 16);
     CHECK(rtm_join(NULL, 0, NULL, 0, &joined) == RTM_TOO_SHORT);
     CHECK(rtm_join(message, 36, NULL, 0, &joined) == RTM_TOO_SHORT);
+    CHECK(rtm_correct(NULL, 0, NULL, 0, 0, NULL, 0) == RTM_TOO_SHORT);
+    message_of(output, 0x80, 8);
+    CHECK(rtm_correct(message, 36, output, 36, 0, NULL, 0) == RTM_NO_PTP_HEADER);
     CHECK(rtm_address_count(NULL, 0, &size) == 0 && size == 0);
     CHECK(rtm_address_entry(NULL, 0, 0, &part) == RTM_NO_ENTRY);
     CHECK(rtm_next_ttl(NULL, 0, NULL, 0, 0, &ttl) == RTM_NO_ENTRY);
@@ -166,6 +169,8 @@ static void refusals(void) {
     CHECK(rtm_image_to_old(message, 36, output, 40, &size) == RTM_IMAGE && STAYED(output) && STAYED(size));
     CHECK(rtm_join(octets, 36, message, 36, &joined) == RTM_NOT_RTM && STAYED(joined));
     CHECK(rtm_join(octets, 36, octets, 36, &joined) == RTM_NOT_A_PAIR && STAYED(joined));
+    CHECK(rtm_correct(octets, 36, message, 36, 0, output, 40) == RTM_NOT_RTM && STAYED(output));
+    CHECK(rtm_correct(octets, 36, octets, 36, 0, output, 40) == RTM_NOT_A_PAIR && STAYED(output));
     CHECK(rtm_address_count(message, 36, &size) == RTM_BAD_ENTRY && STAYED(size));
     CHECK(rtm_address_entry(message, 36, 0, &part) == RTM_BAD_ENTRY && STAYED(part));
 }
@@ -396,7 +401,7 @@ static uint8_t follow_up(uint8_t *message, int64_t pad) {
     return rtm_two_step(&table, with_pad(message, 8, pad), 36, NULL, 0, RTM_PTP, entry, leave);
 }
 
-/* The ends of the pad's range: 11 is joining's alone. */
+/* The ends of the pad's range: 11 is joining's and correcting's alone. */
 static void ends_of_pads(void) {
     uint8_t message[36], other[36];
     struct rtm_joined joined;
@@ -410,6 +415,101 @@ static void ends_of_pads(void) {
     with_pad(message, 0, INT64_MIN);
     CHECK(rtm_join(message, 36, with_pad(other, 8, -1), 36, &joined) == RTM_SUM_OUT_OF_RANGE && STAYED(joined));
     CHECK(rtm_join(message, 36, with_pad(other, 8, 0), 36, &joined) == 0 && joined.total == INT64_MIN);
+}
+
+/* A pair, of which one message carries a packet with a PTPv2 header, and a copy of that packet. */
+enum { PLACE = 4, PTP_PACKET = PLACE + RTM_PTP_HEADER_SIZE + 3, CORRECTION = PLACE + 8 };
+static struct pair {
+    uint8_t sync[36 + PTP_PACKET], follow_up[36 + PTP_PACKET], copy[PTP_PACKET];
+    size_t sync_size, follow_up_size;
+} pair;
+
+/* A packet with a PTPv2 header at PLACE; what is not looked at is E5, and the free halves are not 0. */
+static void lay_ptp(uint8_t *packet, uint8_t ptp_type, int64_t field) {
+    memset(packet, 0xE5, PTP_PACKET);
+    packet[PLACE] = (uint8_t)(0xA0 + ptp_type);
+    packet[PLACE + 1] = 0xB2;
+    put(packet + CORRECTION, 8, (size_t)field);
+    memcpy(packet + PLACE + 20, octets + 24, 12);
+}
+
+/* The message of this PTPType carries the packet; the two pads and the packet's field. */
+static void lay_pair(uint8_t carrier, int64_t pad, int64_t other, int64_t field) {
+    uint8_t *message = carrier == 0 ? pair.sync : pair.follow_up;
+    with_pad(pair.sync, 0, pad);
+    with_pad(pair.follow_up, 8, other);
+    pair.sync_size = pair.follow_up_size = 36;
+    *(carrier == 0 ? &pair.sync_size : &pair.follow_up_size) += PTP_PACKET;
+    message[15] = 20 + PTP_PACKET;
+    lay_ptp(message + 36, carrier, field);
+    memcpy(pair.copy, message + 36, PTP_PACKET);
+}
+
+static uint8_t correct_at(size_t place, uint8_t *copy, size_t size) {
+    return rtm_correct(pair.sync, pair.sync_size, pair.follow_up, pair.follow_up_size, place, copy, size);
+}
+
+/* Corrected, and with this field: all other octets are as they came. */
+static bool corrects_to(uint8_t carrier, int64_t field) {
+    uint8_t expected[PTP_PACKET];
+    lay_ptp(expected, carrier, field);
+    return correct_at(PLACE, pair.copy, PTP_PACKET) == 0 && memcmp(pair.copy, expected, PTP_PACKET) == 0;
+}
+
+/* Refused with this number, and as it came. */
+static bool refused_at(size_t place, size_t size, uint8_t number) {
+    uint8_t copy[PTP_PACKET + 1], before[PTP_PACKET + 1];
+    LAY(copy);
+    memcpy(copy, pair.copy, PTP_PACKET);
+    memcpy(before, copy, sizeof before);
+    return correct_at(place, copy, size) == number && memcmp(copy, before, sizeof before) == 0;
+}
+
+/* Correcting: both carriers, the ends of the field, and where a refusal begins. */
+static void corrected(void) {
+    lay_pair(8, 7, 5, 100);
+    CHECK(corrects_to(8, 112));
+    lay_pair(0, 7, 5, -100);
+    CHECK(corrects_to(0, -88));
+    lay_pair(8, INT64_MIN, 0, INT64_MAX);
+    CHECK(corrects_to(8, INT64_MAX));
+    lay_pair(8, INT64_MAX, -1, INT64_MIN);
+    CHECK(corrects_to(8, INT64_MAX));
+    lay_pair(0, 1, 0, INT64_MAX - 1);
+    CHECK(corrects_to(0, INT64_MAX));
+    lay_pair(0, 0, 0, INT64_MIN);
+    CHECK(corrects_to(0, INT64_MIN));
+    lay_pair(8, 0, -1, INT64_MIN);
+    CHECK(refused_at(PLACE, PTP_PACKET, RTM_CORRECTION_OUT_OF_RANGE));
+    lay_pair(8, INT64_MIN, -1, 0);
+    CHECK(refused_at(PLACE, PTP_PACKET, RTM_SUM_OUT_OF_RANGE));
+}
+
+static void uncorrected(void) {
+    size_t i;
+    lay_pair(8, 7, 5, 100);
+    CHECK(refused_at(PLACE, PTP_PACKET - 1, RTM_NOT_A_COPY));
+    CHECK(refused_at(PLACE, PTP_PACKET + 1, RTM_NOT_A_COPY));
+    for (i = 0; i < PTP_PACKET; i++) {
+        pair.copy[i] ^= 1;
+        CHECK(refused_at(PLACE, PTP_PACKET, RTM_NOT_A_COPY));
+        pair.copy[i] ^= 1;
+    }
+    CHECK(refused_at(PLACE + 3, PTP_PACKET, RTM_PTP_HEADER_MISMATCH));
+    CHECK(refused_at(PLACE + 4, PTP_PACKET, RTM_NO_PTP_HEADER));
+    CHECK(refused_at(SIZE_MAX, PTP_PACKET, RTM_NO_PTP_HEADER));
+    CHECK(refused_at(SIZE_MAX - RTM_PTP_HEADER_SIZE + 1, PTP_PACKET, RTM_NO_PTP_HEADER));
+    /* The bits of the two low halves, the source port and the sequence count, and no other of the header. */
+    for (i = 0; i < RTM_PTP_HEADER_SIZE * 8; i++) {
+        size_t at = i / 8;
+        bool counts = at < 2 ? i % 8 < 4 : at >= 20 && at < 32;
+        lay_pair(8, 0, 0, 1);
+        pair.follow_up[36 + PLACE + at] ^= (uint8_t)(1 << i % 8);
+        memcpy(pair.copy, pair.follow_up + 36, PTP_PACKET);
+        CHECK(counts ? refused_at(PLACE, PTP_PACKET, RTM_PTP_HEADER_MISMATCH)
+                     : correct_at(PLACE, pair.copy, PTP_PACKET) == 0 &&
+                           memcmp(pair.copy, pair.follow_up + 36, PTP_PACKET) == 0);
+    }
 }
 
 static bool all_zeros(const struct rtm_report *report) {
@@ -575,6 +675,8 @@ int main(void) {
     full_with_delays();
     full_of_syncs();
     ends_of_pads();
+    corrected();
+    uncorrected();
     ends_of_captures();
     captured();
     planned();

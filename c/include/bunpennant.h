@@ -5,14 +5,16 @@
  * rtm_two_step. A two-step node keeps a table of residences that wait for their message, and calls rtm_tick
  * once a second. At the egress rtm_join gives the total of a Sync and its Follow_Up. rtm_write_labels gives
  * the label entries that take a message to the next timing node of its path. All these are in the archive
- * libbunpennant.a. For support, rtm_replay runs a capture of node calls again and reports on them; for
- * planners, rtm_plan gives the pads that a path would show before it is built. Each of these two has an
- * archive of its own, libbunpennant_replay.a and libbunpennant_plan.a.
+ * libbunpennant.a. Three functions have an archive each, so that the others stay as fast as they are. For the
+ * egress, rtm_correct adds the total to the correctionField of the packet that the pair carries
+ * (libbunpennant_correct.a). For support, rtm_replay runs a capture of node calls again and reports on them
+ * (libbunpennant_replay.a). For planners, rtm_plan gives the pads that a path would show before it is built
+ * (libbunpennant_plan.a).
  *
  * Answers. A call answers 0, or at a node one of the words RTM_UPDATED to RTM_ADDED. Any other number is
- * that of a refusal, RTM_TOO_SHORT to RTM_MODE: the first that applies, in the order that is given with each
- * function. A refusal leaves everything that the call was lent exactly as it came. rtm_tick and rtm_waiting
- * answer a count and refuse nothing.
+ * that of a refusal, RTM_TOO_SHORT to RTM_CORRECTION_OUT_OF_RANGE: the first that applies, in the order that
+ * is given with each function. A refusal leaves everything that the call was lent exactly as it came. rtm_tick
+ * and rtm_waiting answer a count and refuse nothing.
  *
  * What the proofs assume of the caller:
  *   - The machine is x86-64 Linux with the System V calling convention.
@@ -20,8 +22,8 @@
  *     else changes these octets, or reads those that the call may write.
  *   - What one call is lent does not overlap.
  *   - Tables, fields, parts, joined pairs, reports, hops, pads and places for a number of 8 octets are
- *     8-aligned, as C aligns them. Messages, outputs, images, lists, captures and the place for a TTL may lie
- *     at any address.
+ *     8-aligned, as C aligns them. Messages, packets, outputs, images, lists, captures and the place for a TTL
+ *     may lie at any address.
  *   - The arguments ntp and two_step hold 0 or 1, as any bool of C does.
  * NULL with a length of 0 is a message, packet, output, image, list or capture of no octets, or a path of no
  * hops. Nothing is read or written through it. No other pointer may be NULL.
@@ -66,14 +68,14 @@ enum {
     RTM_SUB_TLV = 8,             /* sub-TLV type not 1, or the length that it states neither 20 nor 16 */
     RTM_INVALID_STAMP = 9,       /* nanoseconds of a PTP stamp over 999,999,999 */
     RTM_TOO_LONG_RESIDENCE = 10, /* residence over 3,999,999,999 ns; NTP, and in a plan: 4 seconds or more */
-    RTM_SUM_OUT_OF_RANGE = 11,   /* joining: the sum of the two pads is below -2^63; never at a node */
+    RTM_SUM_OUT_OF_RANGE = 11,   /* joining, correcting: the sum of the two pads is below -2^63; never at a node */
     RTM_OUTPUT_TOO_SMALL = 12,   /* what is to be written does not fit the output */
     RTM_ALREADY_WAITING = 13,    /* a record of this kind, port identity and sequence waits */
     RTM_NO_EMPTY_SLOT = 14,      /* all 16 slots of the table hold records */
     RTM_NO_RECORD = 15,          /* no record of its kind, port identity and sequence waits for the message */
     RTM_NOT_FOR_TWO_STEP = 16,   /* two-step node: type 1 or 5, or PTPType 2 or 3 */
     RTM_PTP_TYPE = 17,           /* writing types 2 to 4: PTPType over 15 */
-    RTM_NOT_A_PAIR = 18,         /* joining: not a Sync with S set and its Follow_Up */
+    RTM_NOT_A_PAIR = 18,         /* joining, correcting: not a Sync with S set and its Follow_Up */
     RTM_LIST_TOO_LONG = 19,      /* address list over 1,024 octets */
     RTM_BAD_ENTRY = 20,          /* some entry of the list cut short, of unknown type or of wrong length */
     RTM_NO_ENTRY = 21,           /* place or position not below the number of entries */
@@ -84,7 +86,11 @@ enum {
     RTM_CAPTURE = 26,            /* no capture */
     RTM_DELAY_RECORD = 27,       /* an image with a Delay record, which has no old form */
     RTM_TOO_MANY_HOPS = 28,      /* a plan of over 255 hops */
-    RTM_MODE = 29                /* a hop's mode neither one-step nor two-step */
+    RTM_MODE = 29,               /* a hop's mode neither one-step nor two-step */
+    RTM_NOT_A_COPY = 30,         /* correcting: copy of another size or other octets than the packet */
+    RTM_NO_PTP_HEADER = 31,      /* correcting: a header of 34 octets does not fit at the place */
+    RTM_PTP_HEADER_MISMATCH = 32, /* correcting: version not 2, or type, port or sequence not the sub-TLV's */
+    RTM_CORRECTION_OUT_OF_RANGE = 33 /* correcting: the new correctionField would be below -2^63 */
 };
 
 /* Sizes, in octets. */
@@ -93,7 +99,8 @@ enum {
     RTM_CREATED_SIZE = 36,       /* the Follow_Up that a two-step node creates */
     RTM_IMAGE_SIZE = 386,        /* the largest image of a table: 2 and 24 for each of 16 records */
     RTM_OLD_IMAGE_SIZE = 369,    /* the largest of the old form: 1 and 23 for each of 16 records */
-    RTM_LABELS_SIZE = 8          /* the two label entries */
+    RTM_LABELS_SIZE = 8,         /* the two label entries */
+    RTM_PTP_HEADER_SIZE = 34     /* a PTPv2 header (IEEE 1588) */
 };
 
 /*
@@ -280,6 +287,21 @@ uint8_t rtm_image_to_old(const uint8_t *image, size_t size, uint8_t *output, siz
  */
 uint8_t rtm_join(const uint8_t *sync, size_t sync_size, const uint8_t *follow_up, size_t follow_up_size,
                  struct rtm_joined *joined);
+
+/*
+ * Corrects the packet of such a pair, at the egress. `copy`, of `copy_size` octets, is a copy of the packet
+ * that rtm_join tells; `place` says from which octet of it on its PTPv2 header stands, RTM_PTP_HEADER_SIZE
+ * octets. Answers 0: the total is added to the header's correctionField, octets 8 to 15 of it, where 2^63-1
+ * is written if either of the two is that or their sum is that or more; no other octet of the copy changes.
+ * The UDP checksum of the packet, where it has one, is then to be made anew by the caller. Refusals: those of
+ * rtm_join; 30 for a copy of another size or other octets than the packet; 31 where the header does not fit
+ * at the place, which may be any number; 32 for a version other than 2 (low half of octet 1) or a message type
+ * (low half of octet 0), source port (20 to 29) or sequence (30, 31) other than in the sub-TLV of the message
+ * that carried the packet, the Follow_Up or, where that carries none, the Sync; 33 for a sum below -2^63; in
+ * this order. A refusal leaves the copy as it came.
+ */
+uint8_t rtm_correct(const uint8_t *sync, size_t sync_size, const uint8_t *follow_up, size_t follow_up_size,
+                    size_t place, uint8_t *copy, size_t copy_size);
 
 /*
  * Counts the entries of an address list of the RTM_SET TLV, `list` of `size` octets. Answers 0 and writes

@@ -7,7 +7,8 @@ pub enum Written {
     Refused(u8),
 }
 
-// 1 to 8: reading a message, and with it every node call and joining. 2, 6 and 7 also writing one.
+// 1 to 8: reading a message, and with it every node call, joining and correcting. 2, 6 and 7 also
+// writing one.
 pub const TOO_SHORT: u8 = 1;
 
 pub const TOO_LONG: u8 = 2;
@@ -30,7 +31,8 @@ pub const INVALID_STAMP: u8 = 9;
 
 pub const TOO_LONG_RESIDENCE: u8 = 10;
 
-// 11: joining alone. It is withdrawn at nodes (document 02, W-210): no node call gives it.
+// 11: joining, and with it correcting. It is withdrawn at nodes (document 02, W-210): no node call
+// gives it.
 pub const SUM_OUT_OF_RANGE: u8 = 11;
 
 // 12: writing a message, an image or label entries; converting an image; a two-step node, for a Sync
@@ -53,7 +55,7 @@ pub const PTP_TYPE: u8 = 17;
 
 pub const SUB_TLV_LENGTH: u8 = 23;
 
-// 18: joining.
+// 18: joining, and with it correcting.
 pub const NOT_A_PAIR: u8 = 18;
 
 // 19 to 21: an address list, and the hops and RTM_SET from which the next TTL is found.
@@ -82,3 +84,13 @@ pub const DELAY_RECORD: u8 = 27;
 pub const TOO_MANY_HOPS: u8 = 28;
 
 pub const MODE: u8 = 29;
+
+// 30 to 33: correcting the packet of a joined pair, for its copy, for the place of its PTPv2 header,
+// for what that header says, and for its new correctionField.
+pub const NOT_A_COPY: u8 = 30;
+
+pub const NO_PTP_HEADER: u8 = 31;
+
+pub const PTP_HEADER_MISMATCH: u8 = 32;
+
+pub const CORRECTION_OUT_OF_RANGE: u8 = 33;

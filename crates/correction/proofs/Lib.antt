@@ -1,0 +1,9 @@
+pub mod Sums
+pub mod Packets
+pub mod Fields
+pub mod Kept
+pub mod Paths
+pub mod Samples
+pub mod Examples
+pub mod CreatedExample
+pub mod FollowUpExample

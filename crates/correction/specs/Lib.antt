@@ -1,0 +1,4 @@
+pub mod Header
+pub mod Correct
+pub mod Promises
+pub mod Path
