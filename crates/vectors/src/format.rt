@@ -26,6 +26,11 @@ pub(crate) fn counted(s: &[u8]) -> &[u8] {
     front(after(s, 2), octets::read16(s, 0) as usize)
 }
 
+// What stands behind such a field.
+pub(crate) fn behind(s: &[u8]) -> &[u8] {
+    after(after(s, 2), octets::read16(s, 0) as usize)
+}
+
 // Copies s to the start of the buffer and answers that part, which has no octets where s does not
 // fit.
 pub(crate) fn copied<'a>(buffer: &'a mut [u8], s: &[u8]) -> &'a mut [u8] {

@@ -14,7 +14,5 @@ fn join<'a>(sync: &'a [u8], follow_up: &'a [u8]) {
 }
 
 pub(crate) fn run(body: &[u8]) {
-    let sync = format::counted(body);
-    let follow_up = format::counted(format::after(format::after(body, 2), sync.len()));
-    join(sync, follow_up);
+    join(format::counted(body), format::counted(format::behind(body)));
 }

@@ -2,16 +2,15 @@
 use crate::format;
 use label_stack::Ttl;
 
-// The RTM_SET list, which stands behind the hops.
-fn set_of(lists: &[u8]) -> &[u8] {
-    format::counted(format::after(format::after(lists, 2), octets::read16(lists, 0) as usize))
-}
-
 pub(crate) fn run_search(body: &[u8]) {
     let position = octets::read64(body, 0) as usize;
     let lists = format::after(body, 8);
     print::text(b"ttl ");
-    match label_stack::next_ttl(format::counted(lists), set_of(lists), position) {
+    match label_stack::next_ttl(
+        format::counted(lists),
+        format::counted(format::behind(lists)),
+        position,
+    ) {
         Ttl::Distance(n) => print::number(b"", n as u64),
         Ttl::Refused(n) => print::refused(n),
     }
@@ -22,7 +21,13 @@ fn write(out: &mut [u8], body: &[u8], lists: &[u8]) {
     let position = octets::read64(body, 0) as usize;
     let label = octets::read32(body, 8);
     print::text(b"labels ");
-    match label_stack::write(format::counted(lists), set_of(lists), position, label, out) {
+    match label_stack::write(
+        format::counted(lists),
+        format::counted(format::behind(lists)),
+        position,
+        label,
+        out,
+    ) {
         Ttl::Distance(_) => print::text(b"written"),
         Ttl::Refused(n) => print::refused(n),
     }

@@ -2,6 +2,7 @@
 // two octets, the size of its body; and the body. A case of an operation that is not known prints
 // nothing.
 mod captures;
+mod corrections;
 mod format;
 mod images;
 mod joins;
@@ -46,6 +47,7 @@ fn run(operation: u8, body: &[u8]) {
         24 => images::run_convert(true, body),
         25 => images::run_convert(false, body),
         26 => plans::run(body),
+        27 => corrections::run(body),
         _ => return,
     }
     print::end_line();
