@@ -46,6 +46,7 @@ CALL(load_image, table, to->first, in->first_size)
 CALL(image_to_new, to->first, in->first_size, to->output, in->room, &to->told->size)
 CALL(image_to_old, to->first, in->first_size, to->output, in->room, &to->told->size)
 CALL(join, to->first, in->first_size, to->second, in->second_size, &to->told->joined)
+CALL(correct, to->first, in->first_size, to->second, in->second_size, in->place, to->output, in->room)
 CALL(address_count, to->first, in->first_size, &to->told->size)
 CALL(address_entry, to->first, in->first_size, in->place, &to->told->part)
 CALL(next_ttl, to->first, in->first_size, to->second, in->second_size, in->place, &to->told->ttl)
@@ -82,7 +83,8 @@ static uint8_t own_new(struct lent *to, struct plain_table *table, const struct 
     return 0;
 }
 
-/* The operations, how often each is taken, and the answers that must come, and no others: 11 from joining alone. */
+/* The operations, how often each is taken, and the answers that must come, and no others: 11 from joining and
+   correcting alone. */
 
 #define READING "1 2 3 4 5 6 7 8"
 #define COUNTS "0 1 2 3 4 5 6 7 8 9 10 11 12 13 14 15 16"
@@ -111,9 +113,10 @@ static const struct operation {
     {SAME(image_to_new), input_for_image, 8, "0 22 12"},
     {SAME(image_to_old), input_for_image, 8, "0 22 27 12"},
     {SAME(join), input_for_pair, 12, "0 " READING " 18 11"},
+    {SAME(correct), input_for_correction, 12, "0 " READING " 18 11 30 31 32 33"},
     {SAME(address_count), input_for_list, 4, "0 19 20"},
     {SAME(address_entry), input_for_list, 4, "0 19 20 21"},
-    {SAME(next_ttl), input_for_path, 12, "0 19 20 21 24"},
+    {SAME(next_ttl), input_for_path, 13, "0 19 20 21 24"},
     {SAME(write_labels), input_for_path, 8, "0 19 20 21 24 25 12"},
     {SAME(replay), input_for_capture, 6, "0 26"},
     {SAME(plan), input_for_plan, 8, "0 28 29 10"},
@@ -144,6 +147,7 @@ static void report(const char *what) {
     printf("%s: %s, input %" PRIu64 " of seed %" PRIu64 "\n", operation->name, what, tried, seed);
     show("first", input.first, input.first_size);
     show("second", input.second, input.second_size);
+    show("output", input.output, input.room);
     printf("  room %zu, place %zu, label %" PRIu32, input.room, input.place, input.label);
     printf(", %s", input.ntp ? "NTP" : "PTP");
     printf(" stamps %" PRIu32 ".%" PRIu32, input.entry.seconds, input.entry.part);
@@ -274,10 +278,11 @@ static bool tells_size(void) {
            operation->library == library_image_to_new || operation->library == library_image_to_old;
 }
 
-/* How many octets of the output the library may have changed. */
+/* How many octets of the output the library may have changed; in a copy, up to its correctionField's end. */
 static size_t written(uint8_t answer, const struct told *told) {
     if (operation->library == library_two_step) return answer == RTM_CREATED ? RTM_CREATED_SIZE : 0;
     if (operation->library == library_write_labels) return answer == 0 ? RTM_LABELS_SIZE : 0;
+    if (operation->library == library_correct) return answer == 0 ? input.place + 16 : 0;
     if (tells_size()) return answer == 0 ? told->size : 0;
     return 0;
 }

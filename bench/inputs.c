@@ -71,6 +71,12 @@ static uint64_t some_pad(void) {
     return once_in(2) ? PICK(ends) : near(PICK(ends));
 }
 
+/* A pad, half of the time one whose sum with a number is near an end. */
+static uint64_t some_pad_with(uint64_t number) {
+    uint64_t end = (UINT64_C(1) << 63) - inputs_below(2);
+    return once_in(2) ? near(end - number) : some_pad();
+}
+
 static uint64_t some_units(void) {
     static const uint64_t ends[] = {0, UNITS_LIMIT, (UINT64_C(1) << 63) - 1, UINT64_MAX};
     if (once_in(8)) return near(PICK(ends));
@@ -401,24 +407,117 @@ void input_for_write(struct input *input) {
     input->room = some_room(input->first_size + (fields->type == 1 || fields->type == 5 ? 16 : 36));
 }
 
-/* Mostly a pair, with pads whose sum is near an end; else two messages. */
-void input_for_pair(struct input *input) {
-    uint64_t pad = some_pad(), end = (UINT64_C(1) << 63) - inputs_below(2);
-    input_for_message(input);
-    input->second_size = some_message(input->second);
-    if (once_in(4) || input->first_size < 36) return;
-    input->second_size = 36 + some_carried_size();
+/* The second message as the Follow_Up of the first, with so many octets behind. */
+static void lay_follow_up(struct input *input, size_t carried_size) {
+    uint64_t pad = some_pad();
+    input->second_size = 36 + carried_size;
     memcpy(input->second, input->first, 36);
     put(input->second + 14, 2, input->second_size - 16);
     put(input->first + 4, 8, pad);
-    put(input->second + 4, 8, once_in(2) ? near(end - pad) : some_pad());
+    put(input->second + 4, 8, some_pad_with(pad));
     input->second[20] = (uint8_t)any();
-    if (!once_in(8)) input->first[20] |= 0x80;
-    if (!once_in(8)) input->first[23] &= 0xF0;
-    if (!once_in(8)) input->second[23] = (uint8_t)((input->second[23] & 0xF0) | 8);
+    input->first[20] |= 0x80;
+    input->first[23] &= 0xF0;
+    input->second[23] = (uint8_t)((input->second[23] & 0xF0) | 8);
+}
+
+/* Mostly a pair, with pads whose sum is near an end; else two messages. */
+void input_for_pair(struct input *input) {
+    input_for_message(input);
+    input->second_size = some_message(input->second);
+    if (once_in(4) || input->first_size < 36) return;
+    lay_follow_up(input, some_carried_size());
+    if (once_in(8)) input->first[20] = (uint8_t)any();
+    if (once_in(8)) input->first[23] = (uint8_t)any();
+    if (once_in(8)) input->second[23] = (uint8_t)any();
     if (once_in(8)) input->second[13] = (uint8_t)(2 + inputs_below(3));
     if (once_in(8)) input->second[24 + inputs_below(12)] ^= (uint8_t)(1u << inputs_below(8));
     if (once_in(8)) input->second_size = damage(input->second, input->second_size);
+}
+
+/* Corrections: a PTPv2 header has 34 octets. */
+
+static size_t some_packet_size(void) {
+    static const size_t ends[] = {0, 33, 34, 2012};
+    if (once_in(8)) return PICK(ends);
+    return 34 + inputs_below(once_in(16) ? 1979 : 45);
+}
+
+/* The Follow_Up carries a packet, and the Sync perhaps another; or the Sync alone does. */
+static void good_pair(struct input *input) {
+    size_t size = some_packet_size(), other = once_in(2) ? size : some_carried_size();
+    bool own = !once_in(3);
+    random_input(input);
+    input->first_size = 36 + (own ? other : size);
+    lay_message(input->first, input->first_size, (uint16_t)(2 + inputs_below(3)));
+    lay_follow_up(input, own ? size : 0);
+    if (once_in(2)) put(input->second + 4, 8, some_units());
+}
+
+/* The message whose packet is to be corrected. It tells that packet's size. */
+static uint8_t *carrier_of(struct input *input, size_t *size) {
+    bool own = input->second_size > 36;
+    size_t all = own ? input->second_size : input->first_size;
+    *size = all > 36 ? all - 36 : 0;
+    return own ? input->second : input->first;
+}
+
+/* A header in the message's packet, of the exchange that its sub-TLV names. What is not looked at stays. */
+static void lay_header(uint8_t *message, size_t place, uint64_t field) {
+    uint8_t *header = message + 36 + place;
+    header[0] = (uint8_t)((header[0] & 0xF0) | (message[23] & 0x0F));
+    header[1] = (uint8_t)((header[1] & 0xF0) | 2);
+    put(header + 8, 8, field);
+    memcpy(header + 20, message + 24, 12);
+}
+
+/* Another version, message type, clock, port or sequence. */
+static void damage_header(uint8_t *header) {
+    switch (inputs_below(5)) {
+    case 0: header[1] ^= (uint8_t)(1u << inputs_below(4)); break;
+    case 1: header[0] ^= (uint8_t)(1u << inputs_below(4)); break;
+    case 2: header[20 + inputs_below(8)] ^= (uint8_t)(1u << inputs_below(8)); break;
+    case 3: header[28 + inputs_below(2)] ^= (uint8_t)(1u << inputs_below(8)); break;
+    default: header[30 + inputs_below(2)] ^= (uint8_t)(1u << inputs_below(8)); break;
+    }
+}
+
+/* One thing that is wrong, or may be: an octet anywhere or at the end, the Sync's packet, the size. */
+static void damage_copy(struct input *input) {
+    size_t size = input->room;
+    switch (inputs_below(6)) {
+    case 0: input->output[inputs_below(size + 1)] ^= (uint8_t)(1u << inputs_below(8)); break;
+    case 1: input->output[size - inputs_below(size < 4 ? 1 : 4)] ^= (uint8_t)(1u << inputs_below(8)); break;
+    case 2: memcpy(input->output, input->first + 36, size); break;
+    case 3: input->room = inputs_below(once_in(2) ? 2 : size + 36); break;
+    case 4: input->room = size > 0 ? size - 1 : 0; break;
+    default: input->room = size + 1; break;
+    }
+}
+
+/* Where no header is, or none fits; a place and 34 may be past the largest number. */
+static size_t another_place(size_t place, size_t size) {
+    size_t ends[] = {place + 1, size - 33, size, place + (UINT64_C(1) << 32), SIZE_MAX - inputs_below(40)};
+    return PICK(ends);
+}
+
+/* Both messages have a header at the place, also where it lies past their end. */
+void input_for_correction(struct input *input) {
+    uint64_t pads;
+    uint8_t *carrier;
+    size_t size, place;
+    if (once_in(4)) input_for_pair(input);
+    else good_pair(input);
+    carrier = carrier_of(input, &size);
+    place = inputs_below(size < 34 ? 4 : size - 33);
+    pads = get(input->first + 4, 8) + get(input->second + 4, 8);
+    lay_header(input->first, place, some_pad_with(pads));
+    lay_header(input->second, place, some_pad_with(pads));
+    if (once_in(6)) damage_header(carrier + 36 + place);
+    input->room = size;
+    memcpy(input->output, carrier + 36, size);
+    if (once_in(6)) damage_copy(input);
+    input->place = once_in(8) ? another_place(place, size) : place;
 }
 
 void input_for_image(struct input *input) {

@@ -24,7 +24,7 @@ struct input {
     uint8_t first[MOST];         /* a message, Sync, carried packet, image, list or capture; hops, as a list
                                     or as structs */
     uint8_t second[MOST];        /* a Follow_Up; the RTM_SET of hops */
-    uint8_t output[MOST];        /* what the output holds before the call */
+    uint8_t output[MOST];        /* what the output holds before the call; the copy of a packet */
     size_t first_size, second_size, room, place;
     uint32_t label;
     bool null;                   /* hand over NULL for a string of no octets */
@@ -39,13 +39,14 @@ struct input {
 void inputs_seed(uint64_t seed);
 uint64_t inputs_below(uint64_t limit);
 
-void input_for_message(struct input *input);   /* a message, stamps, a table and an output */
+void input_for_message(struct input *input);    /* a message, stamps, a table and an output */
 void input_for_write(struct input *input);
 void input_for_pair(struct input *input);
-void input_for_image(struct input *input);     /* an image of either form, and an output for the other */
+void input_for_correction(struct input *input); /* a pair, a copy of its packet as the output, and a place */
+void input_for_image(struct input *input);      /* an image of either form, and an output for the other */
 void input_for_list(struct input *input);
-void input_for_path(struct input *input);      /* hops, a set, a position, a label and an output */
+void input_for_path(struct input *input);       /* hops, a set, a position, a label and an output */
 void input_for_capture(struct input *input);
-void input_for_plan(struct input *input);      /* hops as structs, pads and S */
+void input_for_plan(struct input *input);       /* hops as structs, pads and S */
 
 #endif

@@ -500,8 +500,8 @@ static inline uint8_t add_pads(int64_t a, int64_t b, int64_t *sum) {
     return 0;
 }
 
-uint8_t plain_join(const uint8_t *sync, size_t sync_size, const uint8_t *follow_up, size_t follow_up_size,
-                   struct rtm_joined *joined) {
+static inline uint8_t join(const uint8_t *sync, size_t sync_size, const uint8_t *follow_up,
+                           size_t follow_up_size, struct rtm_joined *joined) {
     int64_t total;
     bool own = follow_up_size > CARRIED;
     uint8_t refusal = check(sync, sync_size);
@@ -515,6 +515,42 @@ uint8_t plain_join(const uint8_t *sync, size_t sync_size, const uint8_t *follow_
     joined->message = own ? RTM_OF_FOLLOW_UP : RTM_OF_SYNC;
     joined->packet.offset = CARRIED;
     joined->packet.length = (own ? follow_up_size : sync_size) - CARRIED;
+    return 0;
+}
+
+uint8_t plain_join(const uint8_t *sync, size_t sync_size, const uint8_t *follow_up, size_t follow_up_size,
+                   struct rtm_joined *joined) {
+    return join(sync, sync_size, follow_up, follow_up_size, joined);
+}
+
+/* Correcting the packet of a pair */
+
+/* Octets of a PTPv2 header (IEEE 1588, 13.3). The sequence stands behind the source port, as in a message. */
+enum { MESSAGE_TYPE = 0, VERSION_PTP = 1, CORRECTION = 8, SOURCE_PORT = 20 };
+enum { PTP_V2 = 2 };
+
+/* Whether a header is of version 2 and of the exchange that the message's sub-TLV names. */
+static inline bool is_header_of(const uint8_t *message, const uint8_t *header) {
+    return (header[VERSION_PTP] & 0x0F) == PTP_V2 && (header[MESSAGE_TYPE] & 0x0F) == ptp_type(message) &&
+           memcmp(header + SOURCE_PORT, message + PORT_IDENTITY, CARRIED - PORT_IDENTITY) == 0;
+}
+
+uint8_t plain_correct(const uint8_t *sync, size_t sync_size, const uint8_t *follow_up, size_t follow_up_size,
+                      size_t place, uint8_t *copy, size_t copy_size) {
+    struct rtm_joined joined;
+    const uint8_t *carrier;
+    uint8_t *header, refusal = join(sync, sync_size, follow_up, follow_up_size, &joined);
+    int64_t field;
+    if (refusal) return refusal;
+    carrier = joined.message == RTM_OF_FOLLOW_UP ? follow_up : sync;
+    if (copy_size != joined.packet.length) return RTM_NOT_A_COPY;
+    if (copy_size > 0 && memcmp(copy, carrier + CARRIED, copy_size) != 0) return RTM_NOT_A_COPY;
+    if (copy_size < RTM_PTP_HEADER_SIZE || place > copy_size - RTM_PTP_HEADER_SIZE) return RTM_NO_PTP_HEADER;
+    header = copy + place;
+    if (!is_header_of(carrier, header)) return RTM_PTP_HEADER_MISMATCH;
+    refusal = add_pads((int64_t)get64(header + CORRECTION), joined.total, &field);
+    if (refusal) return RTM_CORRECTION_OUT_OF_RANGE;
+    put64(header + CORRECTION, (uint64_t)field);
     return 0;
 }
 

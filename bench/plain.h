@@ -41,6 +41,8 @@ uint8_t plain_image_to_new(const uint8_t *image, size_t size, uint8_t *output, s
 uint8_t plain_image_to_old(const uint8_t *image, size_t size, uint8_t *output, size_t room, size_t *written);
 uint8_t plain_join(const uint8_t *sync, size_t sync_size, const uint8_t *follow_up, size_t follow_up_size,
                    struct rtm_joined *joined);
+uint8_t plain_correct(const uint8_t *sync, size_t sync_size, const uint8_t *follow_up, size_t follow_up_size,
+                      size_t place, uint8_t *copy, size_t copy_size);
 uint8_t plain_address_count(const uint8_t *list, size_t size, size_t *count);
 uint8_t plain_address_entry(const uint8_t *list, size_t size, size_t place, struct rtm_part *entry);
 uint8_t plain_next_ttl(const uint8_t *hops, size_t hops_size, const uint8_t *set, size_t set_size,

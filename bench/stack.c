@@ -42,6 +42,8 @@ CALL(load_image, &input.table, input.first, input.first_size)
 CALL(image_to_new, input.first, input.first_size, input.output, input.room, &input.told.size)
 CALL(image_to_old, input.first, input.first_size, input.output, input.room, &input.told.size)
 CALL(join, input.first, input.first_size, input.second, input.second_size, &input.told.joined)
+CALL(correct, input.first, input.first_size, input.second, input.second_size, input.place, input.output,
+     input.room)
 CALL(address_count, input.first, input.first_size, &input.told.size)
 CALL(address_entry, input.first, input.first_size, input.place, &input.told.part)
 CALL(next_ttl, input.first, input.first_size, input.second, input.second_size, input.place, &input.told.ttl)
@@ -73,6 +75,7 @@ static const struct measured {
     {MEASURED(image_to_new), input_for_image},
     {MEASURED(image_to_old), input_for_image},
     {MEASURED(join), input_for_pair},
+    {MEASURED(correct), input_for_correction},
     {MEASURED(address_count), input_for_list},
     {MEASURED(address_entry), input_for_list},
     {MEASURED(next_ttl), input_for_path},

@@ -20,9 +20,9 @@ uint64_t bench_pairs(uint8_t *sync, size_t sync_size, uint8_t *follow_up, size_t
 uint64_t bench_pairs_lent(uint8_t *sync, size_t sync_size, uint8_t *follow_up, size_t follow_up_size,
                           uint8_t *output, size_t room, uint64_t count);
 
-/* What the calls are lent. The capture and the old image are first, which puts them behind the others in
-   memory: they do not move an output over the end of a page. */
-static uint8_t capture[FIRST_BODY + BODIES * BODY], old_image[RTM_OLD_IMAGE_SIZE];
+/* What the calls are lent. The Follow_Up with a packet, the capture and the old image are first, which puts
+   them behind the others in memory: they do not move an output over the end of a page. */
+static uint8_t carrying[MESSAGE + PACKET], capture[FIRST_BODY + BODIES * BODY], old_image[RTM_OLD_IMAGE_SIZE];
 static struct rtm_report report;
 static struct rtm_hop path[RTM_MOST_HOPS];
 static struct rtm_pads pads;
@@ -103,6 +103,17 @@ static void prepare_few(void) {
     for (i = 0; i < IN_SET; i++) lay_entry(set + i * IPV4_ENTRY, IPV4, IPV4_ENTRY, HOPS - 1 - 2 * i);
 }
 
+/* The Follow_Up carries a PTP packet, and what it was written from is the copy. Both pads are 0, so that the
+   copy stays one: each call does all its work, and no fresh copy is timed with it. */
+static void prepare_correct(void) {
+    lay_messages();
+    rtm_read(follow_up, MESSAGE, &fields);
+    packet[0] = 8;
+    packet[1] = 2;
+    memcpy(packet + 20, follow_up + 24, 12);
+    rtm_write(&fields, packet, PACKET, carrying, sizeof carrying, &size);
+}
+
 static void prepare_ticks(void) {
     lay_tables(16, TICKS + 2);
     library_full = library_table;
@@ -173,6 +184,7 @@ LOOP(residence, 0, residence, RTM_PTP, entry, leave, &units)
 LOOP(one_step_ptp, RTM_UPDATED, one_step, clear, MESSAGE, RTM_PTP, entry, leave)
 LOOP(one_step_ntp, RTM_UPDATED, one_step, clear, MESSAGE, RTM_NTP, entry, leave)
 LOOP(join, 0, join, sync, MESSAGE, follow_up, MESSAGE, &joined)
+LOOP(correct, 0, correct, sync, MESSAGE, carrying, sizeof carrying, 0, packet, PACKET)
 LOOP(write, 0, write, &fields, packet, PACKET, output, sizeof output, &size)
 LOOP(write_image, 0, write_image, table, output, sizeof output, &size)
 LOOP(load_image, 0, load_image, table, image, sizeof image)
@@ -275,6 +287,7 @@ static const struct timed rows[] = {
     {"created", prepare, own_created, library_created},
     {"tick, 16 waiting", prepare_ticks, own_tick, library_tick},
     {"join", prepare, own_join, library_join},
+    {"correct, packet of 44", prepare_correct, own_correct, library_correct},
     {"write, packet of 44", prepare, own_write, library_write},
     {"image written, 16 records", prepare_16, own_write_image, library_write_image},
     {"image loaded, 16 records", prepare_16, own_load_image, library_load_image},
