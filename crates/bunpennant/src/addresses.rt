@@ -8,8 +8,7 @@ use rtm_set::{Count, Located};
 
 // How many entries the list has: 0 and the count, or refusal 19 or 20, which leaves the count as it
 // came.
-#[unsafe(no_mangle)]
-pub extern "C" fn rtm_address_count(list: &[u8], count: &mut usize) -> u8
+pub fn rtm_address_count(list: &[u8], count: &mut usize) -> u8
     ensures { told result count.new ≡ tell count.old (count_of list.now) }
 {
     match rtm_set::count(list) {
@@ -23,8 +22,7 @@ pub extern "C" fn rtm_address_count(list: &[u8], count: &mut usize) -> u8
 
 // Where the entry at a place, counted from 0, begins in the list and how long it is: 0, or refusal 19,
 // 20 or 21, which leaves both as they came.
-#[unsafe(no_mangle)]
-pub extern "C" fn rtm_address_entry(list: &[u8], place: usize, entry: &mut [u64; 2]) -> u8
+pub fn rtm_address_entry(list: &[u8], place: usize, entry: &mut [u64; 2]) -> u8
     ensures { told result entry.new
         ≡ tell entry.old (and_then (part_of list.now place) (λ p. value (put_part entry.old p.offset p.length))) }
 {

@@ -19,6 +19,7 @@ const SEQUENCE: usize = 11;
 
 const FLAGS: usize = 12;
 
+#[tactic(auto, unfolding(crate::specs::C::put64))]
 fn put64(fields: &mut [u16; 16], at: usize, x: u64)
     requires { at < 8 }
     ensures { fields.new ≡ put64 fields.old at x }
@@ -36,6 +37,7 @@ fn whole(a: u16, b: u16, c: u16, d: u16) -> u64
     a as u64 + (b as u64 + (c as u64 + d as u64 * 65_536) * 65_536) * 65_536
 }
 
+#[tactic(auto, unfolding(crate::specs::C::get64))]
 fn get64(fields: &[u16; 16], at: usize) -> u64
     requires { at < 8 }
     ensures { result ≡ get64 fields.now at }

@@ -11,8 +11,7 @@ use switchover::Loading;
 
 // Writes the table's image, in the new form: 0 and its size, or refusal 22 or 12, which leaves output
 // and size as they came.
-#[unsafe(no_mangle)]
-pub extern "C" fn rtm_write_image(words: &[u64; 64], output: &mut [u8], size: &mut usize) -> u8
+pub fn rtm_write_image(words: &[u64; 64], output: &mut [u8], size: &mut usize) -> u8
     ensures { sized result output.new size.new
         ≡ sized_of size.old (write_of (slots_of words.now) output.old) }
 {
@@ -20,8 +19,7 @@ pub extern "C" fn rtm_write_image(words: &[u64; 64], output: &mut [u8], size: &m
 }
 
 // Loads an image of either form: 0, or refusal 22, which leaves every word as it came.
-#[unsafe(no_mangle)]
-pub extern "C" fn rtm_load_image(words: &mut [u64; 64], image: &[u8]) -> u8
+pub fn rtm_load_image(words: &mut [u64; 64], image: &[u8]) -> u8
     ensures { lent result words.new ≡ lent_of (load_on image.now words.old) }
 {
     match table::load_image(words, image) {
@@ -32,8 +30,7 @@ pub extern "C" fn rtm_load_image(words: &mut [u64; 64], image: &[u8]) -> u8
 
 // Converts an image of the old form to the new: 0 and its size, or refusal 22 or 12, which leaves
 // output and size as they came.
-#[unsafe(no_mangle)]
-pub extern "C" fn rtm_image_to_new(image: &[u8], output: &mut [u8], size: &mut usize) -> u8
+pub fn rtm_image_to_new(image: &[u8], output: &mut [u8], size: &mut usize) -> u8
     ensures { sized result output.new size.new
         ≡ sized_of size.old (convert_of Old New image.now output.old) }
 {
@@ -42,8 +39,7 @@ pub extern "C" fn rtm_image_to_new(image: &[u8], output: &mut [u8], size: &mut u
 
 // Converts an image of the new form to the old: 0 and its size, or refusal 22, 27 or 12, which leaves
 // output and size as they came.
-#[unsafe(no_mangle)]
-pub extern "C" fn rtm_image_to_old(image: &[u8], output: &mut [u8], size: &mut usize) -> u8
+pub fn rtm_image_to_old(image: &[u8], output: &mut [u8], size: &mut usize) -> u8
     ensures { sized result output.new size.new
         ≡ sized_of size.old (convert_of New Old image.now output.old) }
 {

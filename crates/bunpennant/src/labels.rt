@@ -8,8 +8,7 @@ use label_stack::Ttl;
 
 // The distance from the hop at a position to the nearest later one that is in RTM_SET: 0 and the
 // TTL, or refusal 19, 20, 21 or 24, which leaves the TTL as it came.
-#[unsafe(no_mangle)]
-pub extern "C" fn rtm_next_ttl(hops: &[u8], set: &[u8], position: usize, ttl: &mut u8) -> u8
+pub fn rtm_next_ttl(hops: &[u8], set: &[u8], position: usize, ttl: &mut u8) -> u8
     ensures { told result ttl.new ≡ tell ttl.old (ttl_of hops.now set.now position) }
 {
     match label_stack::next_ttl(hops, set, position) {
@@ -23,8 +22,7 @@ pub extern "C" fn rtm_next_ttl(hops: &[u8], set: &[u8], position: usize, ttl: &m
 
 // The two label entries for that TTL, at the start of the output: 0, or a refusal, the search's, 25
 // or 12, which leaves the output as it came.
-#[unsafe(no_mangle)]
-pub extern "C" fn rtm_write_labels(
+pub fn rtm_write_labels(
     hops: &[u8],
     set: &[u8],
     position: usize,

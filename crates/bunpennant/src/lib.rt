@@ -1,6 +1,8 @@
 // The library for C: the functions that c/include/bunpennant.h declares. Answers are numbers, a struct
 // is lent as the numbers of which its memory is made (specs/C.antt), and the table as its words. Each
 // function makes one call of the library.
+#![tactic(auto)]
+
 mod addresses;
 mod fields;
 mod images;

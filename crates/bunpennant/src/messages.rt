@@ -9,8 +9,7 @@ use crate::{fields, sizes};
 use reader::Reading;
 
 // The message's fields: 0, or the first of refusals 1 to 8, which leaves the struct as it came.
-#[unsafe(no_mangle)]
-pub extern "C" fn rtm_read(message: &[u8], fields: &mut [u16; 16]) -> u8
+pub fn rtm_read(message: &[u8], fields: &mut [u16; 16]) -> u8
     ensures { told result fields.new
         ≡ tell fields.old (and_then (read_of message.now) (λ m. value (message_fields fields.old m))) }
 {
@@ -30,8 +29,7 @@ pub extern "C" fn rtm_read(message: &[u8], fields: &mut [u16; 16]) -> u8
 
 // The carried packet's offset and length: 0, or the first of refusals 1 to 8, which leaves both as they
 // came.
-#[unsafe(no_mangle)]
-pub extern "C" fn rtm_carried(message: &[u8], packet: &mut [u64; 2]) -> u8
+pub fn rtm_carried(message: &[u8], packet: &mut [u64; 2]) -> u8
     ensures { told result packet.new
         ≡ tell packet.old (and_then (read_of message.now) (λ m. value (packet_part packet.old message.now))) }
 {
@@ -47,13 +45,7 @@ pub extern "C" fn rtm_carried(message: &[u8], packet: &mut [u64; 2]) -> u8
 
 // Writes a message: 0 and its size, or a refusal, which leaves output and size as they came. The order
 // of refusals is 6, 17, 23, 7, 2, 12.
-#[unsafe(no_mangle)]
-pub extern "C" fn rtm_write(
-    fields: &[u16; 16],
-    carried: &[u8],
-    output: &mut [u8],
-    size: &mut usize,
-) -> u8
+pub fn rtm_write(fields: &[u16; 16], carried: &[u8], output: &mut [u8], size: &mut usize) -> u8
     ensures { sized result output.new size.new
         ≡ sized_of size.old (write_of (fields_in fields.now) carried.now output.old) }
 {

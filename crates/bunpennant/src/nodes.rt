@@ -69,8 +69,7 @@ fn stamps_of(ntp: bool, entry: u64, exit: u64) -> Stamps
 }
 
 // The residence in pad units: 0, or refusal 9 or 10, which leaves the units as they came.
-#[unsafe(no_mangle)]
-pub extern "C" fn rtm_residence(ntp: bool, entry: u64, exit: u64, units: &mut u64) -> u8
+pub fn rtm_residence(ntp: bool, entry: u64, exit: u64, units: &mut u64) -> u8
     ensures { told result units.new ≡ tell units.old (residence_of (stamps_of ntp entry exit)) }
 {
     match stamp::residence_of(stamps_of(ntp, entry, exit)) {
@@ -84,8 +83,7 @@ pub extern "C" fn rtm_residence(ntp: bool, entry: u64, exit: u64, units: &mut u6
 }
 
 // A message at a one-step node. The call looks at no output and no table, and changes none.
-#[unsafe(no_mangle)]
-pub extern "C" fn rtm_one_step(message: &mut [u8], ntp: bool, entry: u64, exit: u64) -> u8
+pub fn rtm_one_step(message: &mut [u8], ntp: bool, entry: u64, exit: u64) -> u8
     ensures { (t : Slots) (n : ℕ) (o : List ℕ)
         → coded_alone result message.new o t n
         ≡ coded_done (call_of t n (handed_call one_step message.old o (stamps_of ntp entry exit))) }
@@ -94,8 +92,7 @@ pub extern "C" fn rtm_one_step(message: &mut [u8], ntp: bool, entry: u64, exit: 
 }
 
 // A message at a two-step node, whose table is lent.
-#[unsafe(no_mangle)]
-pub extern "C" fn rtm_two_step(
+pub fn rtm_two_step(
     words: &mut [u64; 64],
     message: &mut [u8],
     output: &mut [u8],

@@ -1,5 +1,7 @@
 // The plan of a path, for C: the function rtm_plan of c/include/bunpennant.h, in an archive of its own
 // (a router needs none, and its node calls stay as fast as they are).
+#![tactic(auto)]
+
 ghost use Rattle.std.specs.Prelude.{◌≡◌};
 ghost use Rattle.hops.specs.Plan.{start_with, plan_of, planned_answer};
 ghost use Rattle.bunpennant.specs.C.{told};
@@ -43,8 +45,7 @@ fn tell_plan(planned: Planned, pads: &mut [u64; 4]) -> u8
 }
 
 // The plan: 0, or refusal 28, 29 or 10, which leaves the struct as it came.
-#[unsafe(no_mangle)]
-pub extern "C" fn rtm_plan(
+pub fn rtm_plan(
     hops: &[Hop],
     sync_pad: i64,
     follow_up_pad: i64,

@@ -7,7 +7,7 @@ use mathlib.Core.Bool.{Bool, true, false, and-eq-true_iff, ◌&&◌}
 use mathlib.Core.List.{List, []}
 use native.Mathlib.Omega.{arith}
 use borrow.Author.Tests.{le-ltb, le-leb, lt-leb, leb-true, eq-eqb, ne_eqb}
-use lib.Dec.{leb, eqb}
+use lib.Dec.{leb}
 use lib.ListN.{length}
 use lib.Seq.{drop-length, take-nil}
 use Rattle.capture.specs.Layout.{count_in, start_of, body_at, bodies_from, bodies_in, is_body, are_bodies, starts_right, is_capture}

@@ -22,6 +22,7 @@ fn between(octets: &[u8], from: usize, to: usize) -> &[u8]
 
 // Body k: from where it starts to where the next one does, and the last one to the end. There is
 // nothing in a body that the capture does not have.
+#[tactic(auto, unfolding(crate::specs::Layout::body_at))]
 pub fn body(capture: &[u8], k: usize) -> &[u8]
     ensures { result.now ≡ body_at capture.now k }
 {
@@ -35,6 +36,7 @@ pub fn body(capture: &[u8], k: usize) -> &[u8]
 }
 
 // The octets are a call with its stamps, or a tick.
+#[tactic(auto, unfolding(crate::specs::Layout::is_body))]
 fn is_body(body: &[u8]) -> bool
     ensures { result ≡ is_body body.now }
 {

@@ -12,6 +12,7 @@ pub fn count(capture: &[u8]) -> usize
 }
 
 // Where body k of n starts, as the octets say; behind the last body, the end.
+#[tactic(auto, unfolding(crate::specs::Layout::start_of))]
 pub(crate) fn start(capture: &[u8], n: usize, k: usize) -> usize
     requires { (n ≡ count_in capture.now) × (k ≤ 65536) }
     ensures { result ≡ start_of capture.now k }

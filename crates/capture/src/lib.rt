@@ -1,5 +1,7 @@
 // The octets of a capture (document 02, W-209): its contents, the number of bodies and the offset of
 // each, and the bodies, each a recorded call or a tick.
+#![tactic(auto)]
+
 mod bodies;
 mod contents;
 pub mod layout;

@@ -1,5 +1,7 @@
 // Correcting the packet at the egress (document 02, W-214): the total of a joined pair is added to
 // the correctionField of the PTPv2 packet that it carried.
+#![tactic(auto)]
+
 ghost use Rattle.std.specs.Prelude.{◌≡◌, ◌+◌, ◌≤◌, length};
 ghost use Rattle.octets.specs.Octets.{signed_octets, put};
 ghost use Rattle.message.specs.Read.{message_value, sub_tlv as read_sub_tlv, carried_of};
@@ -15,7 +17,7 @@ use message::layout::CARRIED;
 use scratch_pad::Sum;
 
 // The packet's new correctionField, or the number of the refusal.
-#[derive(Drop)]
+#[derive(Clone, Copy)]
 pub enum Correction {
     Field(i64),
     Refused(u8),

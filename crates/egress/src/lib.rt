@@ -1,5 +1,7 @@
 // Joining at the egress (document 01, Writing and joining): the total of a Sync's pad and its
 // Follow_Up's, and the packet shown.
+#![tactic(auto)]
+
 ghost use Rattle.std.specs.Prelude.{◌≡◌};
 ghost use Rattle.refusal.specs.Answer.{refusal_in};
 ghost use Rattle.message.specs.Read.{read_of, content_of};
@@ -10,7 +12,7 @@ use message::{SubTlv, is_ptp, types};
 use scratch_pad::Sum;
 
 // The total of the two pads, or the number of the refusal.
-#[derive(Drop)]
+#[derive(Clone, Copy)]
 pub enum Joined {
     Total(i64),
     Refused(u8),

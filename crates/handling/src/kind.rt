@@ -6,7 +6,7 @@ ghost use Rattle.handling.specs.Handling.{kind_answer};
 use message::{SubTlv, is_ptp, types};
 use records::{Identity, RecordKind};
 
-#[derive(Drop)]
+#[derive(Clone, Copy)]
 pub enum Handling {
     // A Sync with S clear: its Follow_Up is created.
     Creates(Identity),

@@ -28,7 +28,7 @@ use Rattle.rules.proofs.Bearing.{sound_ptp}
 use Rattle.rules.proofs.Changes.{with_pad_pad, with_pad_kind}
 use Rattle.rules.specs.Credited.{says}
 use Rattle.rules.proofs.Calls.{sync-created}
-use Rattle.rules.proofs.Samples.{octets_of, not_created, apart}
+use Rattle.rules.proofs.Samples.{octets_of, not_created}
 use Rattle.rules.proofs.PathExample.{mine}
 use Rattle.hops.specs.declared.Hop.{Hop}
 use Rattle.hops.specs.declared.Start.{Start}

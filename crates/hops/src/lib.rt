@@ -1,9 +1,10 @@
 // The hops of a path that is planned, and what the plan of it says (document 02, W-212): definitions
 // and theorems. The functions are in `planner`.
+#![tactic(auto)]
 
 // A hop: its mode, and the residence of the Sync there, in pad units.
 #[repr(C)]
-#[derive(Drop)]
+#[derive(Clone, Copy)]
 pub struct Hop {
     pub mode: u8,
     pub residence: u64,
@@ -19,7 +20,7 @@ pub const MOST: usize = 255;
 
 // What a path starts with: the Sync's pad and S, and the pad of its Follow_Up, which counts only where
 // S is set.
-#[derive(Drop)]
+#[derive(Clone, Copy)]
 pub struct Start {
     pub sync_pad: i64,
     pub follow_up_pad: i64,
@@ -27,7 +28,7 @@ pub struct Start {
 }
 
 // What it ends with: the pads, S, and whether there is a Follow_Up. Where there is none its pad is 0.
-#[derive(Drop)]
+#[derive(Clone, Copy)]
 pub struct End {
     pub sync_pad: i64,
     pub follow_up_pad: i64,
@@ -36,7 +37,7 @@ pub struct End {
 }
 
 // The plan of a path, or the number of the refusal.
-#[derive(Drop)]
+#[derive(Clone, Copy)]
 pub enum Planned {
     Shows(End),
     Refused(u8),

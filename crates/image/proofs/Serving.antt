@@ -2,7 +2,7 @@
 -- A tick, a request that adds only sound records and a switchover each keep it.
 -- Assumes nothing.
 use Prim.Native.Nat.{ℕ, zero, suc, ◌-◌, ◌<◌, ◌≤◌, ◌^◌}
-use mathlib.Core.Path.{◌≡◌, refl, sym, ap, ◌∙◌}
+use mathlib.Core.Path.{◌≡◌, refl, sym, ap, subst, ◌∙◌}
 use mathlib.Core.Bool.{Bool, true, false, cond, not, ◌&&◌, ◌||◌, and-eq-true_iff}
 use mathlib.Core.List.{List, [], ◌∷◌, tail, map}
 use mathlib.Core.Option.{Option, none, some}
@@ -165,7 +165,7 @@ distinct-Single (s ∷ t) h q = go (empty s) refl h (λ k. distinct-Single t k q
         by : Dec (q ≡ identity_of s) → length (view q (s ∷ t)) ≤ 1
         by (yes f) =
             let alone : length (view (identity_of s) t) ≡ 0 = eqb-true (length (view (identity_of s) t)) 0 (sym (differ-view (identity_of s) t) ∙ parts.0) in
-            rw (f, holds_self s e) (omega arith)
+            subst (λ (x : Identity). length (view x (s ∷ t)) ≤ 1) (sym f) (rw (holds_self s e) (omega arith))
         by (no f) = rw (holds_other q (identity_of s) s f (holds_self s e)) (k parts.1)
 
 Single-distinct : (t : Slots) → Single t → distinct (records_of t) ≡ true

@@ -1,5 +1,7 @@
 // The TTL that takes an RTM message to the next timing node, and the two label entries that carry it
 // (document 02, W-208; RFC 8169, 4.5; RFC 3032; RFC 5586).
+#![tactic(auto)]
+
 mod labels;
 mod layout;
 mod search;

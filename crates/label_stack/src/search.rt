@@ -7,7 +7,7 @@ ghost use Rattle.label_stack.specs.Answers.{ttl_answer};
 use rtm_set::{Count, layout};
 
 // The distance to the next timing node, 1 for the very next hop, or the number of the refusal.
-#[derive(Drop)]
+#[derive(Clone, Copy)]
 pub enum Ttl {
     Distance(u8),
     Refused(u8),

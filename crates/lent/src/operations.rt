@@ -67,18 +67,21 @@ fn vacancy(words: &[u64; 64]) -> usize
 }
 
 // The number as it is kept.
+#[tactic(auto, unfolding(words::specs::Words::number_of))]
 pub fn number(words: &[u64; 64]) -> u8
     ensures { result ≡ number_of words.now }
 {
     (words[layout::NUMBER] % layout::OCTET) as u8
 }
 
+#[tactic(auto, unfolding(words::specs::Words::with_number))]
 pub(crate) fn set_number(words: &mut [u64; 64], number: u8)
     ensures { words.new ≡ with_number words.old number }
 {
     words[layout::NUMBER] = packed::with_number(words[layout::NUMBER], number);
 }
 
+#[tactic(auto, unfolding(words::specs::Words::put_slot))]
 fn put(words: &mut [u64; 64], k: usize, clock: u64, packed: u64, residence: u64)
     requires { k < 16 }
     ensures { words.new ≡ put_slot words.old k clock packed residence }
@@ -110,6 +113,7 @@ fn residence_at(words: &[u64; 64], k: usize) -> u64
 }
 
 // Makes it a table with no records: all zeros.
+#[tactic(auto, unfolding(words::specs::Words::decoded, words::specs::Words::slots_of, words::specs::Words::number_of))]
 pub fn clear(words: &mut [u64; 64])
     ensures { left (value 0) words.new ≡ new_on }
 {

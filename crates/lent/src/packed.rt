@@ -8,6 +8,7 @@ use crate::layout;
 use records::{Identity, Record, RecordKind};
 
 // Kind, port number and sequence in one number. The ranges are for the proofs of callers.
+#[tactic(auto, unfolding(words::specs::Words::key_of))]
 pub(crate) fn key_of(identity: Identity) -> u64
     ensures { (result ≡ key_of identity) × IdentityFits identity }
 {
@@ -17,6 +18,7 @@ pub(crate) fn key_of(identity: Identity) -> u64
 }
 
 // The packed word of a record.
+#[tactic(auto, unfolding(words::specs::Words::packed_of))]
 pub(crate) fn packed_of(slot: Record) -> u64
     ensures { (result ≡ packed_of slot) × RecordFits slot }
 {
@@ -53,6 +55,7 @@ fn kind_of(bit: u64) -> RecordKind
 }
 
 // The slot in three words.
+#[tactic(auto, unfolding(words::specs::Words::decoded))]
 pub(crate) fn decode(clock: u64, packed: u64, residence: u64) -> Record
     ensures { result ≡ decoded clock packed residence }
 {

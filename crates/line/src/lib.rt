@@ -1,6 +1,8 @@
 // What the programs print: `show` of a message (document 01, Numbers to check against), `show_ttl` of
 // a path (document 02, W-208), `replay` of a capture (W-209), `plan` of a path that is to be built
 // (W-212); and the programs themselves.
+#![tactic(auto)]
+
 mod place;
 mod planning;
 mod program;

@@ -8,7 +8,6 @@ ghost use Rattle.line.specs.Planning.{follow_up_words, end_line, planned_line, p
 
 use crate::{ROOM, place};
 use hops::{End, Planned};
-use libc::STDOUT_FILENO;
 
 // The most octets that are read. No path has just as many, so that an input which is not read whole is
 // malformed.
@@ -59,21 +58,21 @@ pub fn plan_line(path: &[u8], out: &mut [u8; ROOM]) -> usize
 }
 
 // Prints the line of an input, and answers how many octets it has.
-pub fn print_plan(path: &[u8]) -> usize
+pub fn print_plan(rt: &impl Print, path: &[u8]) -> usize
     ensures { result ≡ length (plan_line_of path.now) }
 {
     let mut out = [0u8; ROOM];
     let end = plan_line(path, &mut out);
-    io::write_all(STDOUT_FILENO, &out[..end]);
+    let _ = rt.write_all(&out[..end]);
     end
 }
 
 // Reads standard input, prints its line, and answers how many octets it read.
-pub fn plan() -> usize
+pub fn plan(rt: &(impl Input + Print)) -> usize
     ensures { result ≤ 65536 }
 {
-    let mut path = io::large_buffer();
-    let n = input::read(&mut path, MOST);
-    print_plan(&path[..n]);
+    let mut path = [0u8; MOST];
+    let n = input::read(rt, &mut path, MOST);
+    print_plan(rt, &path[..n]);
     n
 }

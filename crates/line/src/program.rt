@@ -4,28 +4,27 @@ ghost use Rattle.std.specs.Prelude.{◌≡◌, ◌≤◌, length};
 ghost use Rattle.line.specs.Line.{line_of};
 
 use crate::{ROOM, line};
-use libc::STDOUT_FILENO;
 use message::layout;
 
 // The largest message and an octet more, so that a message that is too long is seen to be.
 const MOST: usize = layout::LARGEST + 1;
 
 // Prints the line of a message, and answers how many octets it has.
-pub fn print(message: &[u8]) -> usize
+pub fn print(rt: &impl Print, message: &[u8]) -> usize
     ensures { result ≡ length (line_of message.now) }
 {
     let mut out = [0u8; ROOM];
     let end = line(message, &mut out);
-    io::write_all(STDOUT_FILENO, &out[..end]);
+    let _ = rt.write_all(&out[..end]);
     end
 }
 
 // Reads a message from standard input, prints its line, and answers how many octets it read.
-pub fn show() -> usize
+pub fn show(rt: &(impl Input + Print)) -> usize
     ensures { result ≤ 2049 }
 {
-    let mut message = io::buffer();
-    let n = input::read(&mut message, MOST);
-    print(&message[..n]);
+    let mut message = [0u8; MOST];
+    let n = input::read(rt, &mut message, MOST);
+    print(rt, &message[..n]);
     n
 }

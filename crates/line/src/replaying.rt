@@ -7,7 +7,6 @@ ghost use Rattle.line.specs.Replaying.{count_lines, refused_line, refused_lines,
 
 use crate::{ROOM, place};
 use capture::layout;
-use libc::STDOUT_FILENO;
 use report::{Counts, Range, Residences};
 use rerun::Replaying;
 
@@ -96,35 +95,35 @@ pub fn report_text(capture: &[u8], out: &mut [u8; ROOM]) -> usize
 }
 
 // Prints the text of a capture, and answers how many octets it has.
-pub fn print_report(capture: &[u8]) -> usize
+pub fn print_report(rt: &impl Print, capture: &[u8]) -> usize
     ensures { result ≡ length (text_of capture.now) }
 {
     let mut out = [0u8; ROOM];
     let end = report_text(capture, &mut out);
-    io::write_all(STDOUT_FILENO, &out[..end]);
+    let _ = rt.write_all(&out[..end]);
     end
 }
 
 // Reads a capture from standard input, and answers how many octets it read: the largest capture and
 // one more at most, so that a capture that is too large is seen to be.
-fn receive(capture: &mut [u8]) -> usize
+fn receive(rt: &impl Input, capture: &mut [u8]) -> usize
     requires { length capture.old ≡ 65537 }
     ensures counts_octets { CountsOctets result capture.new }
     ensures upper_bound { result ≤ 65537 }
 {
-    let n = input::read(capture, layout::LARGEST);
+    let n = input::read(rt, capture, layout::LARGEST);
     if n < layout::LARGEST {
         return n;
     }
-    n + input::read(&mut capture[layout::LARGEST..], 1)
+    n + input::read(rt, &mut capture[layout::LARGEST..], 1)
 }
 
 // Reads a capture from standard input, prints its text, and answers how many octets it read.
-pub fn replay() -> usize
+pub fn replay(rt: &(impl Input + Print)) -> usize
     ensures { result ≤ 65537 }
 {
     let mut capture = [0u8; MOST];
-    let n = receive(&mut capture);
-    print_report(&capture[..n]);
+    let n = receive(rt, &mut capture);
+    print_report(rt, &capture[..n]);
     n
 }

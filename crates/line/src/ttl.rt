@@ -8,7 +8,6 @@ ghost use Rattle.line.specs.Ttl.{set_place, laid_out, labels_line, ttl_line_of};
 
 use crate::{ROOM, place};
 use label_stack::Ttl;
-use libc::STDOUT_FILENO;
 
 // The input: the position, the LSP's label, then the hops and the RTM_SET list, each behind its size.
 const POSITION: usize = 0;
@@ -77,21 +76,21 @@ pub fn ttl_line(lists: &[u8], out: &mut [u8; ROOM]) -> usize
 }
 
 // Prints the line of an input, and answers how many octets it has.
-pub fn print_ttl(lists: &[u8]) -> usize
+pub fn print_ttl(rt: &impl Print, lists: &[u8]) -> usize
     ensures { result ≡ length (ttl_line_of lists.now) }
 {
     let mut out = [0u8; ROOM];
     let end = ttl_line(lists, &mut out);
-    io::write_all(STDOUT_FILENO, &out[..end]);
+    let _ = rt.write_all(&out[..end]);
     end
 }
 
 // Reads standard input, prints its line, and answers how many octets it read.
-pub fn show_ttl() -> usize
+pub fn show_ttl(rt: &(impl Input + Print)) -> usize
     ensures { result ≤ 65536 }
 {
-    let mut lists = io::large_buffer();
-    let n = input::read(&mut lists, MOST);
-    print_ttl(&lists[..n]);
+    let mut lists = [0u8; MOST];
+    let n = input::read(rt, &mut lists, MOST);
+    print_ttl(rt, &lists[..n]);
     n
 }

@@ -5,7 +5,7 @@ ghost use Rattle.message.specs.Read.{is_ptp, is_sub_tlv_length};
 use crate::{layout, types};
 
 // The header's fields.
-#[derive(Drop)]
+#[derive(Clone, Copy)]
 pub struct Header {
     pub message_type: u16,
     // The Scratch Pad: nanoseconds times 65,536, signed.
@@ -14,7 +14,7 @@ pub struct Header {
 
 // The sub-TLV's fields, of types 2 to 4. The port identity (document 01's "port", ten octets) is
 // two numbers, clock identity and port number.
-#[derive(Drop)]
+#[derive(Clone, Copy)]
 pub struct SubTlv {
     // The length that it states, 20 or 16. It has 20 octets either way.
     pub length: u16,
@@ -27,7 +27,7 @@ pub struct SubTlv {
 }
 
 // What is written of a message. The sub-TLV is not looked at for types 1 and 5.
-#[derive(Drop)]
+#[derive(Clone, Copy)]
 pub struct Fields {
     pub header: Header,
     pub sub_tlv: SubTlv,

@@ -6,7 +6,7 @@ ghost use Rattle.node.specs.Answers.{units_answer};
 use residence::Residence;
 use table::Table;
 
-#[derive(Drop)]
+#[derive(Clone, Copy)]
 pub enum Answer {
     Updated,
     Passed,
@@ -17,7 +17,7 @@ pub enum Answer {
 }
 
 // The answer of a two-step call, and the table handed back.
-#[derive(Drop)]
+#[derive(Clone, Copy)]
 pub struct Done {
     pub table: Table,
     pub answer: Answer,
@@ -25,14 +25,14 @@ pub struct Done {
 
 // The answer of a two-step call, and the residence of the record that it collected; 0 where it
 // collected none.
-#[derive(Drop)]
+#[derive(Clone, Copy)]
 pub struct Told {
     pub answer: Answer,
     pub collected: u64,
 }
 
 // The units of a residence that a node takes, or the number of the refusal.
-#[derive(Drop)]
+#[derive(Clone, Copy)]
 pub enum Accepted {
     Units(u64),
     Refused(u8),

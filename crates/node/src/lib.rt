@@ -1,5 +1,7 @@
 // One-step and two-step node calls over a residence (RFC 8169, 2.1; document 01, What a node
 // does). Nothing here knows of stamps.
+#![tactic(auto)]
+
 mod answer;
 mod one_step;
 mod two_step;

@@ -12,5 +12,5 @@ pub fn put(out: &mut [u8], at: usize, src: &[u8])
     if out.len() - at < src.len() {
         return;
     }
-    bytes::copy(src, &mut out[at..]);
+    out[at..at + src.len()].copy_from_slice(src);
 }

@@ -1,4 +1,6 @@
 // Prints the pads that the path on standard input would show.
-fn main() {
-    line::plan();
+#![tactic(auto)]
+
+fn main(rt: HostRuntime) {
+    line::plan(&rt);
 }

@@ -1,6 +1,8 @@
 // The plan of a path (document 02, W-212): the pads that it would show, by plain sums over its hops.
 // One thin function walks a lent slice of hops and calls the others with numbers (`plan`); one takes
 // the hops by value, for a caller that has no such slice (`plan_array`).
+#![tactic(auto)]
+
 mod file;
 mod sums;
 

@@ -8,7 +8,7 @@ use residence::LIMIT;
 
 // Of the hops so far: 28, or the refusal of the first bad one, or 0; the residences by mode; whether
 // any was two-step.
-#[derive(Drop)]
+#[derive(Clone, Copy)]
 pub(crate) struct Sums {
     refusal: u8,
     one_step: u64,

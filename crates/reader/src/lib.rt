@@ -1,5 +1,7 @@
 // Reading an RTM message (RFC 8169, 3; document 01, The RTM message): what refuses it, the fields of
 // its header and of the sub-TLV behind that, and the carried packet.
+#![tactic(auto)]
+
 ghost use Rattle.std.specs.Prelude.{◌≡◌, not, cond, ◌&&◌, ltb, eqb, length, drop};
 ghost use Rattle.refusal.specs.Answer.{value as answer_value, and_then, refusal_in};
 ghost use Rattle.message.specs.Read.{ptp, is_type, header as read_header, message_value, header_of, sub_tlv, sub_tlv_of, read_of, packet_at, carried_of};
@@ -9,7 +11,7 @@ ghost use Rattle.reader.specs.Fields.{sub_tlv_in};
 use message::{Header, SubTlv, is_ptp, is_sub_tlv_length, layout, types};
 
 // What a message says, or the number of the refusal.
-#[derive(Drop)]
+#[derive(Clone, Copy)]
 pub enum Reading {
     // Types 1 and 5, which have no sub-TLV.
     Plain(Header),

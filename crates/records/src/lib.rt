@@ -2,6 +2,8 @@
 // W-204): what they are, the number that a table keeps of them, and, in specs/ and proofs/, what a
 // table of them does and the theorem that the order of calls at a node does not matter. The table
 // itself is the crate `table`.
+#![tactic(auto)]
+
 pub mod number;
 
 ghost use Rattle.std.specs.Prelude.{◌≡◌};
@@ -9,7 +11,7 @@ ghost use Rattle.records.specs.Slots.{kind_number, identity_of, same, zeros};
 
 // What a record is kept for: a Sync, whose residence goes on its Follow_Up, or a Delay_Req, whose
 // residence goes on its Delay_Resp (document 02, W-204).
-#[derive(Drop)]
+#[derive(Clone, Copy)]
 pub enum RecordKind {
     Sync,
     Delay,
@@ -17,7 +19,7 @@ pub enum RecordKind {
 
 // The identity of a Sync or Follow_Up, a Delay_Req or Delay_Resp: its kind, its port identity, in
 // two numbers, and its sequence.
-#[derive(Drop)]
+#[derive(Clone, Copy)]
 pub struct Identity {
     pub clock: u64,
     pub port: u16,
@@ -28,7 +30,7 @@ pub struct Identity {
 // A slot of the table. It is empty exactly when its wait is 0, whatever else it holds; otherwise
 // it holds a record: an identity, a residence (document 01's "stay") in pad units, and the number
 // of ticks after which it is gone.
-#[derive(Drop)]
+#[derive(Clone, Copy)]
 pub struct Record {
     pub clock: u64,
     pub port: u16,
@@ -52,6 +54,7 @@ impl RecordKind {
 
 impl Identity {
     // The two are the same: kind, clock identity, port number and sequence.
+    #[tactic(auto, unfolding(crate::specs::Slots::same))]
     pub fn equals(self, other: Identity) -> bool
         ensures { result ≡ same self other }
     {

@@ -1,8 +1,9 @@
 // The refusal numbers (document 01, Refusal numbers), each named once, with the operations that give
 // it; and the answer of whatever is written to a lent output.
+#![tactic(auto)]
 
 // The size written, or the number of the refusal.
-#[derive(Drop)]
+#[derive(Clone, Copy)]
 pub enum Written {
     Size(usize),
     Refused(u8),

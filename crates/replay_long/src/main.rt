@@ -1,6 +1,8 @@
 // Runs the recorded input again: 65,537 octets, one more than a capture may have, and behind them the
 // largest capture, 65,536 octets with 256 bodies.
-fn main() {
-    line::replay();
-    line::replay();
+#![tactic(auto)]
+
+fn main(rt: HostRuntime) {
+    line::replay(&rt);
+    line::replay(&rt);
 }

@@ -1,11 +1,13 @@
 // The report on a capture that is run again (document 02, W-209). Here is what it says; crate `rerun`
 // makes it.
+#![tactic(auto)]
+
 ghost use Rattle.std.specs.Prelude.{◌≡◌};
 ghost use Rattle.report.specs.Report.{nothing_yet};
 
 // How many calls were answered with each word; `refused[n]` is how many were refused with number n
 // (no refusal has number 0).
-#[derive(Drop)]
+#[derive(Clone, Copy)]
 pub struct Counts {
     pub updated: u16,
     pub passed: u16,
@@ -16,20 +18,20 @@ pub struct Counts {
 }
 
 // The least and the greatest residence, where there are any.
-#[derive(Drop)]
+#[derive(Clone, Copy)]
 pub enum Range {
     Absent,
     Between(u64, u64),
 }
 
 // The residences that were updated, created or added, in pad units.
-#[derive(Drop)]
+#[derive(Clone, Copy)]
 pub struct Residences {
     pub range: Range,
     pub sum: u64,
 }
 
-#[derive(Drop)]
+#[derive(Clone, Copy)]
 pub struct Report {
     pub counts: Counts,
     pub residences: Residences,

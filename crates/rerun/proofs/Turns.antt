@@ -9,18 +9,17 @@ use borrow.Author.Tests.{leb-true, eq-eqb, ne_eqb}
 use lib.Dec.{leb}
 use lib.ListN.{length, replicate}
 use Rattle.refusal.specs.Answer.{value, refused}
-use Rattle.residence.specs.declared.Residence.{Residence}
 use Rattle.records.specs.Slots.{Slots, zeros}
 use Rattle.records.specs.Node.{Event, tick, call, result, step, run}
 use Rattle.rules.specs.Rules.{one_step, two_step, Call, rules}
 use Rattle.words.specs.Words.{decoded, slots_of}
-use Rattle.capture.specs.Layout.{count_in, body_at, bodies_from, bodies_in, body_kind, is_body, are_bodies, is_capture}
+use Rattle.capture.specs.Layout.{count_in, body_at, bodies_from, body_kind, is_body, are_bodies, is_capture}
 use Rattle.report.specs.declared.Report.{Report}
 use Rattle.report.specs.Events.{call_in, event_in}
 use Rattle.report.specs.Report.{counting, with_result, report_from, nothing_yet, report_of, report_on}
 use Rattle.report.specs.Room.{Room}
 use Rattle.report.proofs.Rooms.{room_first, room_on}
-use Rattle.rerun.specs.Answers.{Replay, replay_by}
+use Rattle.rerun.specs.Answers.{replay_by}
 
 -- a table of zeros is empty
 pub zeros_empty : slots_of (replicate 64 0) ≡ replicate 16 zeros

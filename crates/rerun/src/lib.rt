@@ -1,4 +1,6 @@
 // Captures that are run again, and the report on their calls (document 02, W-209).
+#![tactic(auto)]
+
 mod calls;
 mod running;
 mod tally;

@@ -19,7 +19,7 @@ use Rattle.records.specs.declared.Identity.{Identity}
 use Rattle.records.specs.Node.{Event, tick, call, switchover}
 use Rattle.rules.specs.Rules.{Kind, sync, delay_req, kind_of, Mode, one_step, two_step, Call, Reply, update, create, keep, rules}
 use Rattle.rules.specs.Path.{first_answer, FirstUnrefused, Visit, Every, First, of_sync, of_delay, FirstWay, units_of}
-use Rattle.rules.proofs.Calls.{reply_is, next_first}
+use Rattle.rules.proofs.Calls.{reply_is, next, next_first}
 use Rattle.rules.proofs.Crossing.{asked, came, of_kind, answered_first, first_at}
 use Rattle.rtm.specs.Stamped.{StampedCall, handed, handed_event, StampedStop, as_stop, stamps_in, first_stamps, total, units}
 use Rattle.rtm.specs.Rounding.{ntp_node, PathRoundedDown}
@@ -105,7 +105,7 @@ module _ (q : Identity) where
       let m = as_stop n in
       let x = measured n s r v h.0 f e in
       let y = (first_at q m s r v f e).grown.kind in
-      rw x.2 (within_more x.0 x.1 (first_stamps ns) x.3 (all_within ns (next_first f (first_answer m)) y h.1 w))
+      rw x.2 (within_more x.0 x.1 (first_stamps ns) x.3 (all_within {s = r.message} {k = next f (first_answer m)} ns (next_first f (first_answer m)) y h.1 w))
 
 pub path_rounded_down : PathRoundedDown
 path_rounded_down q start last path n f u w t h = let x = all_within q path f refl u w in (x.0, omega (arith, x.1, t, h))

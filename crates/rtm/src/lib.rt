@@ -1,6 +1,8 @@
 // Node calls as a router makes them: a message with the stamps of its entry and its exit (document
 // 01, What a node does; document 02, W-203). They are the calls of crate `node` with the residence
 // between the stamps, whatever their format.
+#![tactic(auto)]
+
 ghost use Rattle.std.specs.Prelude.{◌≡◌, ℕ, List};
 ghost use Rattle.records.specs.Slots.{Slots};
 ghost use Rattle.rules.specs.Rules.{one_step, two_step, call_of};

@@ -11,7 +11,7 @@ use lib.ListN.{length, take, drop}
 use Rattle.refusal.specs.Answer.{Answer, value, refused, refuse}
 use Rattle.refusal.proofs.Answers.{not_both, same_value}
 use Rattle.rtm_set.specs.Entries.{front_size, is_entry, entries_within, entries_of, entries_by, entries_in, Sound, count_of}
-use Rattle.rtm_set.proofs.Rest.{Front, front, before, entries_bad, entries_rest}
+use Rattle.rtm_set.proofs.Rest.{Front, before, entries_bad, entries_rest}
 use Rattle.rtm_set.proofs.Counts.{counted, count_few}
 
 -- a list that could be counted is sound, and has as many entries

@@ -3,12 +3,12 @@
 -- Assumes nothing.
 use Prim.Native.Nat.{ℕ, zero, suc, ◌<◌}
 use mathlib.Core.Path.{◌≡◌, refl, sym, ap, ◌∙◌}
-use mathlib.Core.Bool.{Bool, true, false, cond, not, ◌&&◌, ◌||◌, false≢true, and-eq-true_iff}
+use mathlib.Core.Bool.{Bool, true, false, cond, false≢true, and-eq-true_iff}
 use mathlib.Core.List.{List, [], ◌∷◌}
 use mathlib.Core.Option.{Option, none, some}
 use native.Mathlib.Omega.{arith}
 use borrow.Author.Tests.{ltb-true, lt-ltb}
-use lib.Dec.{ltb, eqb-suc-zero}
+use lib.Dec.{eqb-suc-zero}
 use lib.ListN.{get_elem?}
 use Rattle.refusal.specs.Answer.{Answer, value, refused}
 use Rattle.residence.specs.declared.Residence.{Residence}
@@ -19,12 +19,12 @@ use Rattle.records.specs.declared.Record.{Record}
 use Rattle.records.specs.Slots.{Slots, empty, holds, zeros, records_of, lowest, find, fresh, vacant, add_answer, collect_answer, aged, aged_by, ticked}
 use Rattle.records.specs.Node.{Request, nothing, add, collect, table_answer, add_leaves, collect_leaves, table_after, Event, tick, call, switchover, step, final}
 use Rattle.records.proofs.Holding.{holds-empty, with_wait}
-use Rattle.image.specs.Image.{right_residence, sound, every}
+use Rattle.image.specs.Image.{right_residence, every}
 use Rattle.image.proofs.Serving.{in_slot, records_every, every_map, every_set, sound_right}
 use Rattle.image.proofs.Returns.{switched_keeps}
 use Rattle.rules.specs.Rules.{kind_of, Call, rules}
 use Rattle.rules.specs.Path.{units_of}
-use Rattle.rules.specs.Service.{Started, ResidencesBelow}
+use Rattle.rules.specs.Service.{ResidencesBelow}
 use Rattle.rules.proofs.Laws.{asks_add}
 use Rattle.rules.proofs.Serves.{started}
 

@@ -85,15 +85,15 @@ pub record Pads (q : Identity) (ns : List Stop) (first first' second second' : �
 -- the first message, over its nodes in the path's order
 module _ {q : Identity} where
   abbrev evolved : {k : Kind} → First q k → List Stop → Kind
-  evolved {k} f [] = k
-  evolved f (n ∷ ns) = evolved (next_first f (first_answer n)) ns
+  evolved {k = k} f [] = k
+  evolved {k = k} f (n ∷ ns) = evolved {k = next f (first_answer n)} (next_first f (first_answer n)) ns
 
   pub first_way : {k : Kind} {s last : List ℕ} {ns : List Stop} (f : First q k) → kind_of s ≡ k → FirstWay s ns last → Grown (evolved f ns) s last (total updated_at ns)
-  first_way {s = s} f e FirstWay.done = record { kind = e; pad = same_pad s }
-  first_way {last = last} f e (FirstWay.cross {n = n} {ns = ns} {s = s} {r = r} v w) =
+  first_way {k = k} {s = s} f e FirstWay.done = record { kind = e; pad = same_pad s }
+  first_way {k = k} {last = last} f e (FirstWay.cross {n = n} {ns = ns} {s = s} {r = r} v w) =
       let g = (first_at q n s r v f e).grown in
       let o = first_answer n in
-      grown_more (next f o) (evolved (next_first f o) ns) s r.message last (updated_at n) (total updated_at ns) g (first_way (next_first f o) g.kind w)
+      grown_more (next f o) (evolved (next_first f o) ns) s r.message last (updated_at n) (total updated_at ns) g (first_way {k = next f o} (next_first f o) g.kind w)
 
 -- a Sync's S at the end: set where it was, or a node created
 pub sync_end : (q : Identity) (b : Bool) (ns : List Stop) → evolved {q = q} (of_sync b) ns ≡ sync q (b || some_created ns)

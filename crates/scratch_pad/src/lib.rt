@@ -1,11 +1,13 @@
 // Sums on the Scratch Pad: a residence onto a pad, and two pads. No sum overflows on the way. The
 // largest pad means that the correction cannot be represented (IEEE 1588), and stays.
+#![tactic(auto)]
+
 ghost use Rattle.std.specs.Prelude.{◌≡◌};
 ghost use Rattle.scratch_pad.specs.Sum.{raised, pad_sum, sum_answer};
 ghost use Rattle.scratch_pad.specs.Offset.{offset, from_offset};
 
 // The sum of two pads, or the number of the refusal.
-#[derive(Drop)]
+#[derive(Clone, Copy)]
 pub enum Sum {
     Of(i64),
     Refused(u8),

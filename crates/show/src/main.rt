@@ -1,4 +1,6 @@
 // Reads a message from standard input and prints its line.
-fn main() {
-    line::show();
+#![tactic(auto)]
+
+fn main(rt: HostRuntime) {
+    line::show(&rt);
 }

@@ -1,4 +1,6 @@
 // Prints the TTL for the next timing node and the two label entries for the lists on standard input.
-fn main() {
-    line::show_ttl();
+#![tactic(auto)]
+
+fn main(rt: HostRuntime) {
+    line::show_ttl(&rt);
 }

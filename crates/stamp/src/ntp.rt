@@ -7,7 +7,7 @@ use residence::Residence;
 
 // An NTP 64-bit timestamp: seconds, and the fraction of a second in units of 2^-32. Every value is
 // a time.
-#[derive(Drop)]
+#[derive(Clone, Copy)]
 pub struct Stamp {
     pub seconds: u32,
     pub fraction: u32,

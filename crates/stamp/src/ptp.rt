@@ -8,14 +8,14 @@ ghost use Rattle.stamp.specs.Answers.{elapsed_answer};
 use residence::Residence;
 
 // A PTP truncated timestamp. Nanoseconds over 999,999,999 are no time.
-#[derive(Drop)]
+#[derive(Clone, Copy)]
 pub struct Stamp {
     pub seconds: u32,
     pub nanoseconds: u32,
 }
 
 // The time between two stamps, in nanoseconds, or why there is none.
-#[derive(Drop)]
+#[derive(Clone, Copy)]
 pub enum Elapsed {
     Nanoseconds(u64),
     // A stamp that is no time (refusal 9).
@@ -32,7 +32,7 @@ pub fn seconds_between(entry: u32, exit: u32) -> u32
 }
 
 // The exit less the entry, in seconds and nanoseconds below a second.
-#[derive(Drop)]
+#[derive(Clone, Copy)]
 struct Difference {
     seconds: u32,
     nanoseconds: u32,

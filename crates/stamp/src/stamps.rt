@@ -7,7 +7,7 @@ use crate::{ntp, ptp};
 use residence::Residence;
 
 // The stamps of a message's entry and exit.
-#[derive(Drop)]
+#[derive(Clone, Copy)]
 pub enum Stamps {
     Ptp(ptp::Stamp, ptp::Stamp),
     Ntp(ntp::Stamp, ntp::Stamp),

@@ -1,5 +1,7 @@
 // The table's records as an image, for the control card that takes over (document 02, W-201 and W-211):
 // written, loaded, and converted between its two forms. What an image is stands in the crate `image`.
+#![tactic(auto)]
+
 mod bodies;
 mod contents;
 mod converter;

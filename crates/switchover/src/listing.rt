@@ -7,7 +7,7 @@ use image::Form;
 use records::{Record, RecordKind};
 
 // Records from slot 0 on, and how many; the other slots are zeros.
-#[derive(Drop)]
+#[derive(Clone, Copy)]
 pub(crate) struct Listing {
     pub records: [Record; 16],
     pub count: usize,
@@ -81,6 +81,7 @@ pub(crate) fn are_loadable(records: [Record; 16], n: usize) -> bool
 }
 
 // The record is of kind Sync.
+#[tactic(auto, unfolding(image::specs::Image::of_sync))]
 fn is_of_sync(slot: Record) -> bool
     ensures { result ≡ of_sync slot }
 {

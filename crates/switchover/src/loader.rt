@@ -10,7 +10,7 @@ use image::Form;
 use records::Record;
 
 // The image was loaded, or the number of the refusal.
-#[derive(Drop)]
+#[derive(Clone, Copy)]
 pub enum Loading {
     Replaced,
     Refused(u8),
@@ -18,7 +18,7 @@ pub enum Loading {
 
 // The slots that an image loads, how many of them hold a record (document 02, W-206), and the answer;
 // on refusal every slot is zeros, and the number 0.
-#[derive(Drop)]
+#[derive(Clone, Copy)]
 pub struct Loaded {
     pub slots: [Record; 16],
     pub number: u8,

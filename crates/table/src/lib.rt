@@ -1,6 +1,8 @@
 // The table of waiting records by value, document 01's form ("The table is handed in and handed back
 // by each operation"): each method copies the words once, makes one call of the lent form (crate
 // `lent`) and hands them back. And the image of a table, lent or by value.
+#![tactic(auto)]
+
 mod images;
 
 ghost use Rattle.std.specs.Prelude.{◌≡◌, replicate};
@@ -22,34 +24,34 @@ pub use switchover::Loading;
 // a loaded table, and in what the operations make of one, the number is how many slots hold a record.
 // In any other table it is any octet: over 16 it is read as 16, and no answer but that of `waiting`
 // depends on it.
-#[derive(Drop)]
+#[derive(Clone, Copy)]
 pub struct Table {
     pub words: [u64; 64],
 }
 
 // The table after a record was added, and the answer.
-#[derive(Drop)]
+#[derive(Clone, Copy)]
 pub struct Entered {
     pub table: Table,
     pub answer: Entry,
 }
 
 // The table after a record was collected, and the answer.
-#[derive(Drop)]
+#[derive(Clone, Copy)]
 pub struct Taken {
     pub table: Table,
     pub answer: Found,
 }
 
 // The table after a tick, and how many slots it emptied.
-#[derive(Drop)]
+#[derive(Clone, Copy)]
 pub struct Ticked {
     pub table: Table,
     pub emptied: u8,
 }
 
 // The table after an image was loaded, and the answer.
-#[derive(Drop)]
+#[derive(Clone, Copy)]
 pub struct Reloaded {
     pub table: Table,
     pub answer: Loading,
@@ -57,6 +59,7 @@ pub struct Reloaded {
 
 impl Table {
     // A table with no records: all zeros.
+    #[tactic(auto, unfolding(words::specs::Words::decoded, words::specs::Words::slots_of, words::specs::Words::number_of))]
     pub fn new() -> Table
         ensures { made result ≡ new_on }
     {

@@ -30,53 +30,60 @@ fn ntp_stamps(seconds: u32, fraction: u32) -> Stamps {
 }
 
 // Hands a message to a two-step node, prints the answer, and hands the table on.
-pub(crate) fn hand(table: Table, message: &mut [u8], output: &mut [u8], stamps: Stamps) -> Table {
+pub(crate) fn hand(
+    rt: &impl Print,
+    table: Table,
+    message: &mut [u8],
+    output: &mut [u8],
+    stamps: Stamps,
+) -> Table {
     let done = rtm::two_step(table, message, output, stamps);
     let answer = done.answer;
-    print::text(b", ");
-    print::answer(answer);
+    print::text(rt, b", ");
+    print::answer(rt, answer);
     done.table
 }
 
-pub(crate) fn join<'a>(sync: &'a [u8], follow_up: &'a [u8]) {
+pub(crate) fn join<'a>(rt: &impl Print, sync: &'a [u8], follow_up: &'a [u8]) {
     match egress::join(sync, follow_up) {
-        Joined::Total(total) => print::number(b", total ", octets::unsigned(total)),
-        Joined::Refused(n) => print::refused(n),
+        Joined::Total(total) => print::number(rt, b", total ", octets::unsigned(total)),
+        Joined::Refused(n) => print::refused(rt, n),
     };
-    print::end_line();
+    print::end_line(rt);
 }
 
 // A Sync over a one-step node (1,500 ns) and two two-step nodes (differences of 65,536 and 1), and
 // the Follow_Up that the second creates.
-fn path() {
-    print::text(b"path with clocks of both formats, ");
+fn path(rt: &impl Print) {
+    print::text(rt, b"path with clocks of both formats, ");
     let mut sync = [0u8; 36];
     let mut follow_up = [0u8; 36];
     let mut spare = [0u8; 36];
     messages::write(&mut sync, messages::of_type(3, 0), b"");
-    print::answer(rtm::one_step(&mut sync, ptp_stamps(1_500)));
+    print::answer(rt, rtm::one_step(&mut sync, ptp_stamps(1_500)));
     hand(
+        rt,
         Table::new(),
         &mut sync,
         &mut follow_up,
         ntp_stamps(0, 65_536),
     );
-    let third = hand(Table::new(), &mut sync, &mut spare, ntp_stamps(0, 1));
-    hand(third, &mut follow_up, &mut spare, ptp_stamps(0));
-    join(&sync, &follow_up);
+    let third = hand(rt, Table::new(), &mut sync, &mut spare, ntp_stamps(0, 1));
+    hand(rt, third, &mut follow_up, &mut spare, ptp_stamps(0));
+    join(rt, &sync, &follow_up);
 }
 
 // The longest NTP residence waits, goes to another card and is added there.
-fn switched() {
-    print::text(b"longest NTP residence, ");
+fn switched(rt: &impl Print) {
+    print::text(rt, b"longest NTP residence, ");
     let sync = waits::fields(types::PTP_IPV4, types::SYNC, 1);
     let longest = stamp::residence_of(ntp_stamps(3, 4_294_967_295));
-    let kept = waits::hand(Table::new(), sync, longest);
-    waits::follow_up(switchovers::switch(kept), types::PTP_IPV4, 1);
-    print::end_line();
+    let kept = waits::hand(rt, Table::new(), sync, longest);
+    waits::follow_up(rt, switchovers::switch(rt, kept), types::PTP_IPV4, 1);
+    print::end_line(rt);
 }
 
-pub(crate) fn run() {
-    path();
-    switched();
+pub(crate) fn run(rt: &impl Print) {
+    path(rt);
+    switched(rt);
 }

@@ -15,32 +15,44 @@ fn fields(ptp_type: u8) -> Fields {
 }
 
 // There over a one-step node (1,500 ns) and a two-step node (200 ns), and back in reverse.
-fn exchange() {
-    print::text(b"Delay exchange, ");
+fn exchange(rt: &impl Print) {
+    print::text(rt, b"Delay exchange, ");
     let mut request = [0u8; 36];
     let mut response = [0u8; 36];
     let mut output = [0u8; 36];
     messages::write(&mut request, fields(types::DELAY_REQ), b"");
     messages::write(&mut response, fields(types::DELAY_RESP), b"");
-    print::answer(rtm::one_step(&mut request, clocks::ptp_stamps(1_500)));
+    print::answer(rt, rtm::one_step(&mut request, clocks::ptp_stamps(1_500)));
     let second = clocks::hand(
+        rt,
         Table::new(),
         &mut request,
         &mut output,
         clocks::ptp_stamps(200),
     );
-    print::text(b", back");
-    clocks::hand(second, &mut response, &mut output, clocks::ptp_stamps(0));
-    print::text(b", ");
-    print::answer(rtm::one_step(&mut response, clocks::ptp_stamps(0)));
-    print::number(b", pads ", octets::read64(&request, layout::SCRATCH_PAD));
-    print::number(b" and ", octets::read64(&response, layout::SCRATCH_PAD));
-    print::end_line();
+    print::text(rt, b", back");
+    clocks::hand(
+        rt,
+        second,
+        &mut response,
+        &mut output,
+        clocks::ptp_stamps(0),
+    );
+    print::text(rt, b", ");
+    print::answer(rt, rtm::one_step(&mut response, clocks::ptp_stamps(0)));
+    print::number(
+        rt,
+        b", pads ",
+        octets::read64(&request, layout::SCRATCH_PAD),
+    );
+    print::number(rt, b" and ", octets::read64(&response, layout::SCRATCH_PAD));
+    print::end_line(rt);
 }
 
-pub(crate) fn request(table: Table, identity: u16) -> Table {
+pub(crate) fn request(rt: &impl Print, table: Table, identity: u16) -> Table {
     let fields = waits::fields(types::PTP_IPV4, types::DELAY_REQ, identity);
     waits::tell(
+        rt,
         table,
         b", Delay_Req ",
         identity,
@@ -50,9 +62,10 @@ pub(crate) fn request(table: Table, identity: u16) -> Table {
 }
 
 // A Delay_Resp, whose residence is not looked at.
-pub(crate) fn response(table: Table, identity: u16) -> Table {
+pub(crate) fn response(rt: &impl Print, table: Table, identity: u16) -> Table {
     let fields = waits::fields(types::PTP_IPV4, types::DELAY_RESP, identity);
     waits::tell(
+        rt,
         table,
         b", Delay_Resp ",
         identity,
@@ -62,29 +75,33 @@ pub(crate) fn response(table: Table, identity: u16) -> Table {
 }
 
 // The two kinds share the slots, the ticks and the image, and are apart for 13 and 15.
-fn beside() {
-    print::text(b"beside a Sync");
-    let a = response(waits::sync(Table::new(), 1), 1);
-    let b = request(request(a, 1), 1);
-    let c = waits::tick(switchovers::switch(b));
-    let d = waits::follow_up(c, types::PTP_IPV4, 1);
-    let e = response(waits::follow_up(d, types::PTP_IPV4, 1), 1);
-    switchovers::switch(response(e, 1));
-    print::end_line();
+fn beside(rt: &impl Print) {
+    print::text(rt, b"beside a Sync");
+    let a = response(rt, waits::sync(rt, Table::new(), 1), 1);
+    let b = request(rt, request(rt, a, 1), 1);
+    let c = waits::tick(rt, switchovers::switch(rt, b));
+    let d = waits::follow_up(rt, c, types::PTP_IPV4, 1);
+    let e = response(rt, waits::follow_up(rt, d, types::PTP_IPV4, 1), 1);
+    switchovers::switch(rt, response(rt, e, 1));
+    print::end_line(rt);
 }
 
 // A Delay record waits up to its second tick and is gone at its third.
-fn ageing() {
-    print::text(b"Delay record, two ticks");
-    response(waits::tick(waits::tick(request(Table::new(), 1))), 1);
-    print::text(b"\nDelay record, three ticks");
-    let a = waits::tick(waits::tick(request(Table::new(), 1)));
-    response(waits::tick(a), 1);
-    print::end_line();
+fn ageing(rt: &impl Print) {
+    print::text(rt, b"Delay record, two ticks");
+    response(
+        rt,
+        waits::tick(rt, waits::tick(rt, request(rt, Table::new(), 1))),
+        1,
+    );
+    print::text(rt, b"\nDelay record, three ticks");
+    let a = waits::tick(rt, waits::tick(rt, request(rt, Table::new(), 1)));
+    response(rt, waits::tick(rt, a), 1);
+    print::end_line(rt);
 }
 
-pub(crate) fn run() {
-    exchange();
-    beside();
-    ageing();
+pub(crate) fn run(rt: &impl Print) {
+    exchange(rt);
+    beside(rt);
+    ageing(rt);
 }

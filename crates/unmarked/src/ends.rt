@@ -23,8 +23,9 @@ fn fields(ptp_type: u8, pad: i64) -> Fields {
     Fields { header, sub_tlv }
 }
 
-fn follow_up(table: Table, pad: i64) -> Table {
+fn follow_up(rt: &impl Print, table: Table, pad: i64) -> Table {
     waits::tell(
+        rt,
         table,
         b", Follow_Up ",
         1,
@@ -35,34 +36,34 @@ fn follow_up(table: Table, pad: i64) -> Table {
 
 // The record is gone once its Follow_Up was added, so that the next Sync waits and no tick counts
 // the first one.
-fn collected() {
-    print::text(b"largest pad");
-    let a = follow_up(waits::sync(Table::new(), 1), scratch_pad::LARGEST);
-    let b = follow_up(waits::tick(a), scratch_pad::LARGEST);
-    let c = waits::tick(waits::sync(b, 1));
-    waits::tick(waits::tick(c));
-    print::end_line();
+fn collected(rt: &impl Print) {
+    print::text(rt, b"largest pad");
+    let a = follow_up(rt, waits::sync(rt, Table::new(), 1), scratch_pad::LARGEST);
+    let b = follow_up(rt, waits::tick(rt, a), scratch_pad::LARGEST);
+    let c = waits::tick(rt, waits::sync(rt, b, 1));
+    waits::tick(rt, waits::tick(rt, c));
+    print::end_line(rt);
 }
 
 // A residence of 2^63 - 1 that a caller put into the table.
-fn long_record() {
-    print::text(b"record of 2^63-1 units");
+fn long_record(rt: &impl Print) {
+    print::text(rt, b"record of 2^63-1 units");
     let slots = [waits::record(1, 0x7FFF_FFFF_FFFF_FFFF, 3); 16];
     let table = Table::of(slots, 16);
-    let a = follow_up(table, octets::signed(MINUS_FIVE));
-    follow_up(a, 0);
-    print::end_line();
+    let a = follow_up(rt, table, octets::signed(MINUS_FIVE));
+    follow_up(rt, a, 0);
+    print::end_line(rt);
 }
 
-fn one_step(sync: &mut [u8], nanoseconds: u32) {
-    print::text(b", ");
-    print::answer(rtm::one_step(sync, clocks::ptp_stamps(nanoseconds)));
-    print::number(b" pad ", octets::read64(sync, layout::SCRATCH_PAD));
+fn one_step(rt: &impl Print, sync: &mut [u8], nanoseconds: u32) {
+    print::text(rt, b", ");
+    print::answer(rt, rtm::one_step(sync, clocks::ptp_stamps(nanoseconds)));
+    print::number(rt, b" pad ", octets::read64(sync, layout::SCRATCH_PAD));
 }
 
 // A Sync that comes to the largest pad, joined with a Follow_Up at the other end of the range.
-fn path() {
-    print::text(b"to the largest pad");
+fn path(rt: &impl Print) {
+    print::text(rt, b"to the largest pad");
     let mut sync = [0u8; 36];
     let mut other = [0u8; 36];
     messages::write(
@@ -75,14 +76,14 @@ fn path() {
         fields(types::FOLLOW_UP, octets::signed(SMALLEST)),
         b"",
     );
-    one_step(&mut sync, 0);
-    one_step(&mut sync, 1);
-    one_step(&mut sync, 1);
-    clocks::join(&sync, &other);
+    one_step(rt, &mut sync, 0);
+    one_step(rt, &mut sync, 1);
+    one_step(rt, &mut sync, 1);
+    clocks::join(rt, &sync, &other);
 }
 
-pub(crate) fn run() {
-    collected();
-    long_record();
-    path();
+pub(crate) fn run(rt: &impl Print) {
+    collected(rt);
+    long_record(rt);
+    path(rt);
 }

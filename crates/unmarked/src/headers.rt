@@ -6,28 +6,28 @@ use stamp::ptp::Stamp;
 use table::Table;
 
 // Whether the message begins with the header.
-fn compare(message: &[u8]) {
+fn compare(rt: &impl Print, message: &[u8]) {
     if message.len() < 4 {
-        print::text(b"too short\n");
+        print::text(rt, b"too short\n");
         return;
     }
     if check::same(&message[0..4], &message::G_ACH_HEADER) {
-        print::text(b"equal\n");
+        print::text(rt, b"equal\n");
     } else {
-        print::text(b"different\n");
+        print::text(rt, b"different\n");
     }
 }
 
-fn written(message_type: u16) {
-    print::number(b"header of type ", message_type as u64);
-    print::text(b" as written: ");
+fn written(rt: &impl Print, message_type: u16) {
+    print::number(rt, b"header of type ", message_type as u64);
+    print::text(rt, b" as written: ");
     let mut message = [0u8; 36];
     messages::write(&mut message, messages::of_type(message_type, -1), b"");
-    compare(&message);
+    compare(rt, &message);
 }
 
 // The Follow_Up of a Sync with S clear.
-fn created(sync: &mut [u8]) {
+fn created(rt: &impl Print, sync: &mut [u8]) {
     let stamp = Stamp {
         seconds: 0,
         nanoseconds: 0,
@@ -35,19 +35,19 @@ fn created(sync: &mut [u8]) {
     let mut output = [0u8; 36];
     let done = rtm::two_step(Table::new(), sync, &mut output, Stamps::Ptp(stamp, stamp));
     let answer = done.answer;
-    print::text(b"header of a Follow_Up, ");
-    print::answer(answer);
-    print::text(b": ");
-    compare(&output);
+    print::text(rt, b"header of a Follow_Up, ");
+    print::answer(rt, answer);
+    print::text(rt, b": ");
+    compare(rt, &output);
 }
 
-pub(crate) fn run() {
-    written(1);
-    written(2);
-    written(3);
-    written(4);
-    written(5);
+pub(crate) fn run(rt: &impl Print) {
+    written(rt, 1);
+    written(rt, 2);
+    written(rt, 3);
+    written(rt, 4);
+    written(rt, 5);
     let mut sync = [0u8; 36];
     messages::write(&mut sync, messages::of_type(3, 0), b"");
-    created(&mut sync);
+    created(rt, &mut sync);
 }

@@ -1,5 +1,7 @@
 // Runs what tells a story over several calls, and what a case of `vectors` cannot hold, and prints a
 // line for each. A case that is an input and a line stands in the data of `vectors`.
+#![tactic(auto)]
+
 mod clocks;
 mod delays;
 mod ends;
@@ -15,18 +17,18 @@ mod residences;
 mod switchovers;
 mod waits;
 
-fn main() {
-    limits::run();
-    residences::run();
-    waits::run();
-    switchovers::run();
-    headers::run();
-    lengths::run();
-    clocks::run();
-    delays::run();
-    releases::run();
-    ends::run();
-    numbers::run();
-    in_words::run();
-    paths::run();
+fn main(rt: HostRuntime) {
+    limits::run(&rt);
+    residences::run(&rt);
+    waits::run(&rt);
+    switchovers::run(&rt);
+    headers::run(&rt);
+    lengths::run(&rt);
+    clocks::run(&rt);
+    delays::run(&rt);
+    releases::run(&rt);
+    ends::run(&rt);
+    numbers::run(&rt);
+    in_words::run(&rt);
+    paths::run(&rt);
 }

@@ -12,26 +12,26 @@ const HOPS: [u8; 44] =
 const SET: [u8; 16] = *b"\x01\x08\x05\x05\xC0\0\x02\x01\x01\x08\0\0\xC0\0\x02\x03";
 
 // Prints the TTL at a position, and answers how far it goes.
-fn go_from(position: usize) -> usize
+fn go_from(rt: &impl Print, position: usize) -> usize
     ensures { result ≤ 255 }
 {
     match label_stack::next_ttl(&HOPS, &SET, position) {
         Ttl::Distance(n) => {
-            print::number(b", ttl ", n as u64);
+            print::number(rt, b", ttl ", n as u64);
             n as usize
         }
         Ttl::Refused(n) => {
-            print::text(b", ");
-            print::refused(n);
+            print::text(rt, b", ");
+            print::refused(rt, n);
             0
         }
     }
 }
 
-pub(crate) fn run() {
-    print::text(b"from timing node to timing node");
-    let first = go_from(0);
-    let second = go_from(first);
-    go_from(first + second);
-    print::end_line();
+pub(crate) fn run(rt: &impl Print) {
+    print::text(rt, b"from timing node to timing node");
+    let first = go_from(rt, 0);
+    let second = go_from(rt, first);
+    go_from(rt, first + second);
+    print::end_line(rt);
 }

@@ -8,59 +8,59 @@ use rerun::Replaying;
 const MOST: usize = 65600;
 
 // How many calls were refused with each number, from 1 on.
-fn print_refused(refused: [u16; 17]) {
-    print::text(b" refused");
+fn print_refused(rt: &impl Print, refused: [u16; 17]) {
+    print::text(rt, b" refused");
     let mut n: usize = 1;
     while n < 17 {
-        print::number(b" ", refused[n] as u64);
+        print::number(rt, b" ", refused[n] as u64);
         n += 1;
     }
 }
 
-fn print_counts(counts: Counts) {
-    print::number(b"updated ", counts.updated as u64);
-    print::number(b" passed ", counts.passed as u64);
-    print::number(b" created ", counts.created as u64);
-    print::number(b" waiting ", counts.waiting as u64);
-    print::number(b" added ", counts.added as u64);
+fn print_counts(rt: &impl Print, counts: Counts) {
+    print::number(rt, b"updated ", counts.updated as u64);
+    print::number(rt, b" passed ", counts.passed as u64);
+    print::number(rt, b" created ", counts.created as u64);
+    print::number(rt, b" waiting ", counts.waiting as u64);
+    print::number(rt, b" added ", counts.added as u64);
     let refused = counts.refused;
-    print_refused(refused);
+    print_refused(rt, refused);
 }
 
-fn print_residences(residences: Residences) {
+fn print_residences(rt: &impl Print, residences: Residences) {
     let range = residences.range;
     match range {
-        Range::Absent => print::text(b" least - greatest -"),
+        Range::Absent => print::text(rt, b" least - greatest -"),
         Range::Between(least, greatest) => {
-            print::number(b" least ", least);
-            print::number(b" greatest ", greatest)
+            print::number(rt, b" least ", least);
+            print::number(rt, b" greatest ", greatest)
         }
     };
-    print::number(b" sum ", residences.sum);
+    print::number(rt, b" sum ", residences.sum);
 }
 
-fn show(capture: &[u8]) {
+fn show(rt: &impl Print, capture: &[u8]) {
     let replayed = rerun::replay(capture);
     let report = replayed.report;
     let answer = replayed.answer;
-    print::text(b"capture ");
+    print::text(rt, b"capture ");
     match answer {
         Replaying::Reported => {
             let counts = report.counts;
             let residences = report.residences;
-            print_counts(counts);
-            print_residences(residences);
+            print_counts(rt, counts);
+            print_residences(rt, residences);
         }
         Replaying::Refused(n) => {
-            print::refused(n);
+            print::refused(rt, n);
         }
     }
 }
 
-pub(crate) fn run(body: &[u8]) {
+pub(crate) fn run(rt: &impl Print, body: &[u8]) {
     let mut capture = [0u8; MOST];
     let octets = format::after(body, 4);
     let size = octets::read32(body, 0) as usize + octets::read16(octets, 0) as usize;
     octets::put(&mut capture, 0, format::counted(octets));
-    show(format::front(&capture, size));
+    show(rt, format::front(&capture, size));
 }

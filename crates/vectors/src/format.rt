@@ -1,8 +1,6 @@
 // How a case is laid out, and what its line has beside words and numbers: signed ones and octets.
 ghost use Rattle.std.specs.Prelude.{◌≡◌, length};
 
-use libc::STDOUT_FILENO;
-
 // The output that a case lends so much of as it says, each octet AA before the call.
 pub(crate) fn output() -> [u8; 65536]
     ensures { 65536 ≡ length result }
@@ -43,30 +41,37 @@ pub(crate) fn copied<'a>(buffer: &'a mut [u8], s: &[u8]) -> &'a mut [u8] {
 }
 
 // A word and the signed number behind it.
-pub(crate) fn signed(word: &[u8], z: i64) {
+pub(crate) fn signed(rt: &impl Print, word: &[u8], z: i64) {
     let bits = octets::unsigned(z);
     if bits < 0x8000_0000_0000_0000 {
-        print::number(word, bits);
+        print::number(rt, word, bits);
     } else {
-        print::text(word);
-        print::number(b"-", 0xFFFF_FFFF_FFFF_FFFF - bits + 1);
+        print::text(rt, word);
+        print::number(rt, b"-", 0xFFFF_FFFF_FFFF_FFFF - bits + 1);
     }
+}
+
+// A number in so many hexadecimal digits.
+pub(crate) fn digits(rt: &impl Print, n: u64, width: usize) {
+    let mut text = [0u8; 16];
+    let count = io::hex(n, width, &mut text);
+    print::text(rt, &text[..count]);
 }
 
 // An octet, in two digits.
-fn octet(b: u8) {
-    io::print_hex(STDOUT_FILENO, b as u64, 2);
+fn octet(rt: &impl Print, b: u8) {
+    digits(rt, b as u64, 2);
 }
 
 // A word and the octets behind it, in hexadecimal; "-" where there are none.
-pub(crate) fn hex(word: &[u8], s: &[u8]) {
-    print::text(word);
+pub(crate) fn hex(rt: &impl Print, word: &[u8], s: &[u8]) {
+    print::text(rt, word);
     if s.len() == 0 {
-        print::text(b"-");
+        print::text(rt, b"-");
     }
     let mut i = 0;
     while i < s.len() {
-        octet(s[i]);
+        octet(rt, s[i]);
         i += 1;
     }
 }

@@ -2,67 +2,67 @@
 use crate::{format, tables};
 use table::{Loading, Table, Written};
 
-fn show(answer: Written, out: &[u8]) {
+fn show(rt: &impl Print, answer: Written, out: &[u8]) {
     match answer {
-        Written::Size(n) => print::number(b"size ", n as u64),
-        Written::Refused(n) => print::refused(n),
+        Written::Size(n) => print::number(rt, b"size ", n as u64),
+        Written::Refused(n) => print::refused(rt, n),
     };
-    format::hex(b" out ", out);
+    format::hex(rt, b" out ", out);
 }
 
-fn write_in(out: &mut [u8], body: &[u8]) {
-    print::text(b"image-write ");
+fn write_in(rt: &impl Print, out: &mut [u8], body: &[u8]) {
+    print::text(rt, b"image-write ");
     let answer = tables::read(body).write(out);
-    show(answer, out);
+    show(rt, answer, out);
 }
 
-pub(crate) fn run_write(body: &[u8]) {
+pub(crate) fn run_write(rt: &impl Print, body: &[u8]) {
     let mut out = format::output();
     let room = octets::read16(body, tables::SIZE) as usize;
-    write_in(&mut out[0..room], body);
+    write_in(rt, &mut out[0..room], body);
 }
 
 // The image loaded over a new table.
-pub(crate) fn run_load(body: &[u8]) {
+pub(crate) fn run_load(rt: &impl Print, body: &[u8]) {
     let loaded = Table::new().load(format::counted(body));
     let answer = loaded.answer;
-    print::text(b"image-load");
+    print::text(rt, b"image-load");
     match answer {
-        Loading::Replaced => tables::show(loaded.table),
+        Loading::Replaced => tables::show(rt, loaded.table),
         Loading::Refused(n) => {
-            print::number(b" refused ", n as u64);
+            print::number(rt, b" refused ", n as u64);
         }
     }
 }
 
 // The image loaded over the table of the body.
-pub(crate) fn run_replace(body: &[u8]) {
+pub(crate) fn run_replace(rt: &impl Print, body: &[u8]) {
     let loaded = tables::read(body).load(format::counted(format::after(body, tables::SIZE)));
     let answer = loaded.answer;
-    print::text(b"image-replace ");
+    print::text(rt, b"image-replace ");
     match answer {
-        Loading::Replaced => print::text(b"loaded"),
-        Loading::Refused(n) => print::refused(n),
+        Loading::Replaced => print::text(rt, b"loaded"),
+        Loading::Refused(n) => print::refused(rt, n),
     };
-    tables::show(loaded.table);
+    tables::show(rt, loaded.table);
 }
 
-fn convert(to_new: bool, image: &[u8], out: &mut [u8]) -> Written {
+fn convert(rt: &impl Print, to_new: bool, image: &[u8], out: &mut [u8]) -> Written {
     if to_new {
-        print::text(b"image-to-new ");
+        print::text(rt, b"image-to-new ");
         return switchover::to_new(image, out);
     }
-    print::text(b"image-to-old ");
+    print::text(rt, b"image-to-old ");
     switchover::to_old(image, out)
 }
 
-fn convert_in(out: &mut [u8], to_new: bool, body: &[u8]) {
-    let answer = convert(to_new, format::counted(format::after(body, 2)), out);
-    show(answer, out);
+fn convert_in(rt: &impl Print, out: &mut [u8], to_new: bool, body: &[u8]) {
+    let answer = convert(rt, to_new, format::counted(format::after(body, 2)), out);
+    show(rt, answer, out);
 }
 
-pub(crate) fn run_convert(to_new: bool, body: &[u8]) {
+pub(crate) fn run_convert(rt: &impl Print, to_new: bool, body: &[u8]) {
     let mut out = format::output();
     let room = octets::read16(body, 0) as usize;
-    convert_in(&mut out[0..room], to_new, body);
+    convert_in(rt, &mut out[0..room], to_new, body);
 }

@@ -2,17 +2,21 @@
 use crate::format;
 use egress::Joined;
 
-fn join<'a>(sync: &'a [u8], follow_up: &'a [u8]) {
-    print::text(b"join ");
+fn join<'a>(rt: &impl Print, sync: &'a [u8], follow_up: &'a [u8]) {
+    print::text(rt, b"join ");
     match egress::join(sync, follow_up) {
-        Joined::Total(total) => format::signed(b"total ", total),
+        Joined::Total(total) => format::signed(rt, b"total ", total),
         Joined::Refused(n) => {
-            print::refused(n);
+            print::refused(rt, n);
         }
     }
-    format::hex(b" packet ", egress::shown(sync, follow_up));
+    format::hex(rt, b" packet ", egress::shown(sync, follow_up));
 }
 
-pub(crate) fn run(body: &[u8]) {
-    join(format::counted(body), format::counted(format::behind(body)));
+pub(crate) fn run(rt: &impl Print, body: &[u8]) {
+    join(
+        rt,
+        format::counted(body),
+        format::counted(format::behind(body)),
+    );
 }

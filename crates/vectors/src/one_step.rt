@@ -2,23 +2,23 @@
 use crate::{format, stamps};
 use stamp::Stamps;
 
-fn run_in(message: &mut [u8], stamps: Stamps) {
-    print::answer(rtm::one_step(message, stamps));
-    format::hex(b" message ", message);
+fn run_in(rt: &impl Print, message: &mut [u8], stamps: Stamps) {
+    print::answer(rt, rtm::one_step(message, stamps));
+    format::hex(rt, b" message ", message);
 }
 
-fn run_with(stamps: Stamps, body: &[u8]) {
-    let mut buffer = io::large_buffer();
+fn run_with(rt: &impl Print, stamps: Stamps, body: &[u8]) {
+    let mut buffer = [0u8; 65536];
     let message = format::counted(format::after(body, 16));
-    run_in(format::copied(&mut buffer, message), stamps);
+    run_in(rt, format::copied(&mut buffer, message), stamps);
 }
 
-pub(crate) fn run(body: &[u8]) {
-    print::text(b"one-step ");
-    run_with(stamps::read_ptp(body), body);
+pub(crate) fn run(rt: &impl Print, body: &[u8]) {
+    print::text(rt, b"one-step ");
+    run_with(rt, stamps::read_ptp(body), body);
 }
 
-pub(crate) fn run_ntp(body: &[u8]) {
-    print::text(b"one-step-ntp ");
-    run_with(stamps::read_ntp(body), body);
+pub(crate) fn run_ntp(rt: &impl Print, body: &[u8]) {
+    print::text(rt, b"one-step-ntp ");
+    run_with(rt, stamps::read_ntp(body), body);
 }

@@ -2,19 +2,19 @@
 use crate::format;
 use hops::{End, Planned};
 
-fn print_end(end: End) {
-    format::signed(b"sync ", end.sync_pad);
-    format::signed(b" follow-up ", end.follow_up_pad);
-    print::number(b" s ", end.two_step as u64);
-    print::number(b" exists ", end.exists as u64);
+fn print_end(rt: &impl Print, end: End) {
+    format::signed(rt, b"sync ", end.sync_pad);
+    format::signed(rt, b" follow-up ", end.follow_up_pad);
+    print::number(rt, b" s ", end.two_step as u64);
+    print::number(rt, b" exists ", end.exists as u64);
 }
 
-pub(crate) fn run(body: &[u8]) {
-    print::text(b"plan ");
+pub(crate) fn run(rt: &impl Print, body: &[u8]) {
+    print::text(rt, b"plan ");
     match planner::plan_octets(body) {
-        Planned::Shows(end) => print_end(end),
+        Planned::Shows(end) => print_end(rt, end),
         Planned::Refused(n) => {
-            print::refused(n);
+            print::refused(rt, n);
         }
     }
 }

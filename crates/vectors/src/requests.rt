@@ -5,29 +5,29 @@ use table::{Entry, Found};
 // Where the residence stands in the body, behind the table and the identity.
 const RESIDENCE: usize = tables::SIZE + 13;
 
-pub(crate) fn run_add(body: &[u8]) {
+pub(crate) fn run_add(rt: &impl Print, body: &[u8]) {
     let identity = tables::identity(format::after(body, tables::SIZE));
     let entered = tables::read(body).add(identity, octets::read64(body, RESIDENCE));
     let answer = entered.answer;
-    print::text(b"add ");
+    print::text(rt, b"add ");
     match answer {
-        Entry::Waiting => print::text(b"waiting"),
-        Entry::Refused(n) => print::refused(n),
+        Entry::Waiting => print::text(rt, b"waiting"),
+        Entry::Refused(n) => print::refused(rt, n),
     };
-    tables::show(entered.table);
+    tables::show(rt, entered.table);
 }
 
-pub(crate) fn run_collect(body: &[u8]) {
+pub(crate) fn run_collect(rt: &impl Print, body: &[u8]) {
     let taken = tables::read(body).collect(tables::identity(format::after(body, tables::SIZE)));
     let answer = taken.answer;
-    print::text(b"collect ");
+    print::text(rt, b"collect ");
     match answer {
-        Found::Residence(units) => print::number(b"units ", units),
-        Found::Refused(n) => print::refused(n),
+        Found::Residence(units) => print::number(rt, b"units ", units),
+        Found::Refused(n) => print::refused(rt, n),
     };
-    tables::show(taken.table);
+    tables::show(rt, taken.table);
 }
 
-pub(crate) fn run_waiting(body: &[u8]) {
-    print::number(b"waiting ", tables::read(body).waiting() as u64);
+pub(crate) fn run_waiting(rt: &impl Print, body: &[u8]) {
+    print::number(rt, b"waiting ", tables::read(body).waiting() as u64);
 }

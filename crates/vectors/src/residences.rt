@@ -3,20 +3,20 @@ use crate::stamps;
 use residence::Residence;
 use stamp::Stamps;
 
-fn show(stamps: Stamps) {
+fn show(rt: &impl Print, stamps: Stamps) {
     match stamp::residence_of(stamps) {
-        Residence::Units(n) => print::number(b"units ", n),
-        Residence::InvalidStamp => print::refused(refusal::INVALID_STAMP),
-        Residence::TooLong => print::refused(refusal::TOO_LONG_RESIDENCE),
+        Residence::Units(n) => print::number(rt, b"units ", n),
+        Residence::InvalidStamp => print::refused(rt, refusal::INVALID_STAMP),
+        Residence::TooLong => print::refused(rt, refusal::TOO_LONG_RESIDENCE),
     };
 }
 
-pub(crate) fn run(body: &[u8]) {
-    print::text(b"residence ");
-    show(stamps::read_ptp(body));
+pub(crate) fn run(rt: &impl Print, body: &[u8]) {
+    print::text(rt, b"residence ");
+    show(rt, stamps::read_ptp(body));
 }
 
-pub(crate) fn run_ntp(body: &[u8]) {
-    print::text(b"residence-ntp ");
-    show(stamps::read_ntp(body));
+pub(crate) fn run_ntp(rt: &impl Print, body: &[u8]) {
+    print::text(rt, b"residence-ntp ");
+    show(rt, stamps::read_ntp(body));
 }

@@ -2,7 +2,6 @@
 // Delay), port identity (clock identity 8, port number 2), sequence (2), residence in pad units (8)
 // and wait (1).
 use crate::format;
-use libc::STDOUT_FILENO;
 use records::{Identity, Record, RecordKind};
 use table::Table;
 
@@ -60,26 +59,26 @@ pub(crate) fn read(s: &[u8]) -> Table {
     Table::of(slots, number)
 }
 
-fn print_slot(slot: Record) {
+fn print_slot(rt: &impl Print, slot: Record) {
     let kind = slot.kind;
-    io::print_hex(STDOUT_FILENO, kind.number() as u64, 2);
-    io::print_hex(STDOUT_FILENO, slot.clock, 16);
-    io::print_hex(STDOUT_FILENO, slot.port as u64, 4);
-    io::print_hex(STDOUT_FILENO, slot.sequence as u64, 4);
-    io::print_hex(STDOUT_FILENO, slot.residence, 16);
-    io::print_hex(STDOUT_FILENO, slot.wait as u64, 2);
+    format::digits(rt, kind.number() as u64, 2);
+    format::digits(rt, slot.clock, 16);
+    format::digits(rt, slot.port as u64, 4);
+    format::digits(rt, slot.sequence as u64, 4);
+    format::digits(rt, slot.residence, 16);
+    format::digits(rt, slot.wait as u64, 2);
 }
 
-fn print_slots(slots: [Record; 16]) {
+fn print_slots(rt: &impl Print, slots: [Record; 16]) {
     let mut i: usize = 0;
     while i < 16 {
-        print_slot(slots[i]);
+        print_slot(rt, slots[i]);
         i += 1;
     }
 }
 
-pub(crate) fn show(table: Table) {
-    print::text(b" table ");
-    io::print_hex(STDOUT_FILENO, table.number() as u64, 2);
-    print_slots(table.slots());
+pub(crate) fn show(rt: &impl Print, table: Table) {
+    print::text(rt, b" table ");
+    format::digits(rt, table.number() as u64, 2);
+    print_slots(rt, table.slots());
 }

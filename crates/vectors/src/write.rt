@@ -22,20 +22,21 @@ fn fields(body: &[u8], length: u16) -> Fields {
     Fields { header, sub_tlv }
 }
 
-fn write_in(out: &mut [u8], fields: Fields, carried: &[u8]) {
+fn write_in(rt: &impl Print, out: &mut [u8], fields: Fields, carried: &[u8]) {
     match writer::write(out, fields, carried) {
-        Written::Size(n) => print::number(b"size ", n as u64),
-        Written::Refused(n) => print::refused(n),
+        Written::Size(n) => print::number(rt, b"size ", n as u64),
+        Written::Refused(n) => print::refused(rt, n),
     };
-    format::hex(b" out ", out);
+    format::hex(rt, b" out ", out);
 }
 
 // Writes into an output of the size that the rest of the body gives: room (2), and the carried
 // packet.
-fn write(fields: Fields, rest: &[u8]) {
+fn write(rt: &impl Print, fields: Fields, rest: &[u8]) {
     let mut out = format::output();
     let room = octets::read16(rest, 0) as usize;
     write_in(
+        rt,
         &mut out[0..room],
         fields,
         format::counted(format::after(rest, 2)),
@@ -43,18 +44,20 @@ fn write(fields: Fields, rest: &[u8]) {
 }
 
 // With the length that RFC 8169 gives.
-pub(crate) fn run(body: &[u8]) {
-    print::text(b"write ");
+pub(crate) fn run(rt: &impl Print, body: &[u8]) {
+    print::text(rt, b"write ");
     write(
+        rt,
         fields(body, layout::PTP_SUB_TLV_LENGTH),
         format::after(body, 24),
     );
 }
 
 // With a length (2) of the body's, behind the sequence.
-pub(crate) fn run_length(body: &[u8]) {
-    print::text(b"write-length ");
+pub(crate) fn run_length(rt: &impl Print, body: &[u8]) {
+    print::text(rt, b"write-length ");
     write(
+        rt,
         fields(body, octets::read16(body, 24)),
         format::after(body, 26),
     );

@@ -1,5 +1,7 @@
 // Writing an RTM message (RFC 8169, 3; document 01, Writing and joining): its fields and its carried
 // packet, into a lent output.
+#![tactic(auto)]
+
 ghost use Rattle.std.specs.Prelude.{◌≡◌, ◌+◌, ◌≤◌, ◌++◌, length, drop};
 ghost use Rattle.message.specs.Write.{header_octets, sub_tlv_header, flag_octets, sub_tlv_octets, plain_octets, ptp_octets, fit_of, size_of, write_of};
 ghost use Rattle.refusal.specs.Written.{written_answer, written};
