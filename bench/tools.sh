@@ -6,11 +6,6 @@ root=$PWD
 work=$(mktemp -d)
 trap 'rm -rf "$work"' EXIT
 
-# library CRATE: proves it and builds its archive, target/staticlib/libCRATE.a
-library() {
-    rt staticlib "$1" >"$work/log" 2>&1 || { cat "$work/log"; exit 1; }
-}
-
 # build WORDS..: compiles C
 build() {
     gcc -std=c99 -Wall -Wextra -I "$root/c/include" -I "$root/bench" "$@"
