@@ -93,7 +93,8 @@ fn locate_rest(list: &[u8], place: usize, offset: usize) -> Located
     ensures { located_answer result ≡ behind offset (part_of list.now place) }
 {
     let size = front(list);
-    if place == 0 {
+    let is_front = place == 0;
+    if is_front {
         return Located::At(offset, size);
     }
     locate_rest(&list[size..], place - 1, offset + size)

@@ -22,7 +22,8 @@ pub(crate) fn list(slots: [Record; 16]) -> Listing
     let mut i: usize = 0;
     while i < 16 {
         let slot = slots[i];
-        if slot.wait != 0 {
+        let holds = slot.wait != 0;
+        if holds {
             records[count] = slot;
             count += 1;
         }

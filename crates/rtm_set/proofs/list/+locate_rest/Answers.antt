@@ -8,13 +8,13 @@ use Rattle.rtm_set.proofs.Places.{has_front, entry_later}
 use Rattle.rtm_set.proofs.Parts.{part_here, part_later, behind-behind, behind_front}
 use Rattle.rtm_set.proofs.list.+locate_rest.Goals as goal
 
-pub returns-then-place-eq0 : goal.returns-then-place-eq0
-returns-then-place-eq0 t c =
+pub returns-then-is_front : goal.returns-then-is_front
+returns-then-is_front t c =
     let s = c.args.list.now in
     let n = c.front-size.result in
     let has = c.requires.place_value in
     let f : Front s n = front s n c.front-size.ensures (has_front s c.args.place has) in
-    sym (ap (behind c.args.offset) (part_here s c.args.place has n f c.if-place-eq0.true) ∙ behind_front c.args.offset n)
+    sym (ap (behind c.args.offset) (part_here s c.args.place has n f c.if-is_front.true) ∙ behind_front c.args.offset n)
 
 pub locate_rest-requires : goal.locate_rest-requires
 locate_rest-requires t c =
@@ -23,7 +23,7 @@ locate_rest-requires t c =
     let n = c.front-size.result in
     let has = c.requires.place_value in
     let f : Front s n = front s n c.front-size.ensures (has_front s k has) in
-    let later = entry_later s k has n f c.if-place-eq0.false in (
+    let later = entry_later s k has n f c.if-is_front.false in (
       omega arith,
       (
         rw rest (simp length-drop (omega arith)),
@@ -41,4 +41,4 @@ returns t c =
     c.locate_rest.ensures
     ∙ ap (λ (r : List ℕ). behind (c.args.offset + n) (part_of r (k - 1))) (rest s n)
     ∙ sym (behind-behind c.args.offset n (part_of (drop n s) (k - 1)))
-    ∙ ap (behind c.args.offset) (sym (part_later s k has n f c.if-place-eq0.false))
+    ∙ ap (behind c.args.offset) (sym (part_later s k has n f c.if-is_front.false))
