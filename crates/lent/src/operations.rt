@@ -81,7 +81,6 @@ pub(crate) fn set_number(words: &mut [u64; 64], number: u8)
     words[layout::NUMBER] = packed::with_number(words[layout::NUMBER], number);
 }
 
-#[tactic(auto, unfolding(words::specs::Words::put_slot))]
 fn put(words: &mut [u64; 64], k: usize, clock: u64, packed: u64, residence: u64)
     requires { k < 16 }
     ensures { words.new ≡ put_slot words.old k clock packed residence }
@@ -113,7 +112,6 @@ fn residence_at(words: &[u64; 64], k: usize) -> u64
 }
 
 // Makes it a table with no records: all zeros.
-#[tactic(auto, unfolding(words::specs::Words::decoded, words::specs::Words::slots_of, words::specs::Words::number_of))]
 pub fn clear(words: &mut [u64; 64])
     ensures { left (value 0) words.new ≡ new_on }
 {

@@ -59,7 +59,6 @@ pub struct Reloaded {
 
 impl Table {
     // A table with no records: all zeros.
-    #[tactic(auto, unfolding(words::specs::Words::decoded, words::specs::Words::slots_of, words::specs::Words::number_of))]
     pub fn new() -> Table
         ensures { made result ≡ new_on }
     {
