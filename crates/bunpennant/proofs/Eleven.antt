@@ -3,7 +3,9 @@
 use mathlib.Core.Path.{◌≡◌, refl, ap, ◌∙◌}
 use native.Mathlib.Omega.{arith}
 use Rattle.refusal.specs.Answer.{Answer, value, refused}
-use Rattle.rules.specs.Rules.{Word, updated, passed, created, waiting, added, call_of}
+use Rattle.rules.specs.declared.Handled.{Handled as Word}
+use Rattle.rules.specs.declared.Handled.TheVariants.{Updated as updated, Passed as passed, Created as created, Waiting as waiting, Added as added}
+use Rattle.rules.specs.Rules.{call_of}
 use Rattle.rules.proofs.Numbers.{eleven_withdrawn}
 use Rattle.bunpennant.specs.C.{code_of}
 use Rattle.bunpennant.specs.Promises.{CodesWithoutEleven}

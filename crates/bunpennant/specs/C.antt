@@ -7,14 +7,18 @@ use Rattle.refusal.specs.Written.{Write}
 use Rattle.message.specs.declared.fields.Header.{Header}
 use Rattle.message.specs.declared.fields.SubTlv.{SubTlv}
 use Rattle.message.specs.declared.fields.Fields.{Fields}
-use Rattle.message.specs.Read.{Message, plain, ptp, read_of, packet_at, carried_of}
+use Rattle.message.specs.declared.fields.Message.{Message}
+use Rattle.message.specs.declared.fields.Message.TheVariants.{Plain as plain, Ptp as ptp}
+use Rattle.message.specs.Read.{read_of, packet_at, carried_of}
 use Rattle.stamp.specs.declared.stamps.Stamps.{Stamps}
 use Rattle.stamp.specs.declared.stamps.Stamps.TheVariants.{Ptp, Ntp}
 use Rattle.records.specs.Slots.{Slots}
 use Rattle.words.specs.Words.{slots_of, number_of}
 use Rattle.words.specs.Answers.{Left}
 use Rattle.node.specs.Answers.{DoneOn}
-use Rattle.rules.specs.Rules.{Word, updated, passed, created, waiting, added, Done}
+use Rattle.rules.specs.declared.Handled.{Handled as Word}
+use Rattle.rules.specs.declared.Handled.TheVariants.{Updated as updated, Passed as passed, Created as created, Waiting as waiting, Added as added}
+use Rattle.rules.specs.Rules.{Done}
 
 -- Answers. "0 or a word's code, refusals as the papers number them"
 abbrev pub word_code : Word → ℕ

@@ -34,7 +34,7 @@ fn put64(fields: &mut [u16; 16], at: usize, x: u64)
 fn whole(a: u16, b: u16, c: u16, d: u16) -> u64
     ensures { result ≡ a + (b + (c + d * 65536) * 65536) * 65536 }
 {
-    a as u64 + (b as u64 + (c as u64 + d as u64 * 65_536) * 65_536) * 65_536
+    u64::from(a) + (u64::from(b) + (u64::from(c) + u64::from(d) * 65_536) * 65_536) * 65_536
 }
 
 #[tactic(auto, unfolding(crate::specs::C::get64))]
@@ -49,10 +49,7 @@ fn get64(fields: &[u16; 16], at: usize) -> u64
 fn flags_of(two_step: bool, ptp_type: u8) -> u16
     ensures { result ≡ cond two_step 1 0 + ptp_type * 256 }
 {
-    if two_step {
-        return 1 + ptp_type as u16 * 256;
-    }
-    ptp_type as u16 * 256
+    u16::from(two_step) + u16::from(ptp_type) * 256
 }
 
 // S in such a number, which any value but 0 of the low octet sets.
@@ -71,19 +68,18 @@ fn ptp_type_in(flags: u16) -> u8
 pub(crate) fn put_header(fields: &mut [u16; 16], header: Header)
     ensures { fields.new ≡ header_fields fields.old header }
 {
-    put64(fields, PAD, octets::unsigned(header.pad));
+    put64(fields, PAD, header.pad.cast_unsigned());
     fields[TYPE] = header.message_type;
 }
 
 pub(crate) fn put_sub_tlv(fields: &mut [u16; 16], sub_tlv: SubTlv)
     ensures { fields.new ≡ sub_tlv_fields fields.old sub_tlv }
 {
-    let flags = flags_of(sub_tlv.two_step, sub_tlv.ptp_type);
     put64(fields, CLOCK, sub_tlv.clock);
     fields[LENGTH] = sub_tlv.length;
     fields[PORT] = sub_tlv.port;
     fields[SEQUENCE] = sub_tlv.sequence;
-    fields[FLAGS] = flags;
+    fields[FLAGS] = flags_of(sub_tlv.two_step, sub_tlv.ptp_type);
 }
 
 pub(crate) fn fields_in(fields: &[u16; 16]) -> Fields
@@ -91,7 +87,7 @@ pub(crate) fn fields_in(fields: &[u16; 16]) -> Fields
 {
     let header = Header {
         message_type: fields[TYPE],
-        pad: octets::signed(get64(fields, PAD)),
+        pad: get64(fields, PAD).cast_signed(),
     };
     let sub_tlv = SubTlv {
         length: fields[LENGTH],

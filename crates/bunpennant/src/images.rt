@@ -7,10 +7,9 @@ ghost use Rattle.table.specs.Table.{load_on};
 ghost use Rattle.bunpennant.specs.C.{sized, sized_of, lent, lent_of};
 
 use crate::sizes;
-use switchover::Loading;
 
-// Writes the table's image, in the new form: 0 and its size, or refusal 22 or 12, which leaves output
-// and size as they came.
+/// Writes the table's image, in the new form: 0 and its size, or refusal 22 or 12, which leaves output
+/// and size as they came.
 pub fn rtm_write_image(words: &[u64; 64], output: &mut [u8], size: &mut usize) -> u8
     ensures { sized result output.new size.new
         ≡ sized_of size.old (write_of (slots_of words.now) output.old) }
@@ -18,18 +17,15 @@ pub fn rtm_write_image(words: &[u64; 64], output: &mut [u8], size: &mut usize) -
     sizes::tell(table::write_image(words, output), size)
 }
 
-// Loads an image of either form: 0, or refusal 22, which leaves every word as it came.
+/// Loads an image of either form: 0, or refusal 22, which leaves every word as it came.
 pub fn rtm_load_image(words: &mut [u64; 64], image: &[u8]) -> u8
     ensures { lent result words.new ≡ lent_of (load_on image.now words.old) }
 {
-    match table::load_image(words, image) {
-        Loading::Replaced => 0,
-        Loading::Refused(n) => n,
-    }
+    sizes::number(table::load_image(words, image))
 }
 
-// Converts an image of the old form to the new: 0 and its size, or refusal 22 or 12, which leaves
-// output and size as they came.
+/// Converts an image of the old form to the new: 0 and its size, or refusal 22 or 12, which leaves
+/// output and size as they came.
 pub fn rtm_image_to_new(image: &[u8], output: &mut [u8], size: &mut usize) -> u8
     ensures { sized result output.new size.new
         ≡ sized_of size.old (convert_of Old New image.now output.old) }
@@ -37,8 +33,8 @@ pub fn rtm_image_to_new(image: &[u8], output: &mut [u8], size: &mut usize) -> u8
     sizes::tell(switchover::to_new(image, output), size)
 }
 
-// Converts an image of the new form to the old: 0 and its size, or refusal 22, 27 or 12, which leaves
-// output and size as they came.
+/// Converts an image of the new form to the old: 0 and its size, or refusal 22, 27 or 12, which leaves
+/// output and size as they came.
 pub fn rtm_image_to_old(image: &[u8], output: &mut [u8], size: &mut usize) -> u8
     ensures { sized result output.new size.new
         ≡ sized_of size.old (convert_of New Old image.now output.old) }

@@ -19,4 +19,5 @@ pub use joins::rtm_join;
 pub use labels::{rtm_next_ttl, rtm_write_labels};
 pub use messages::{rtm_carried, rtm_read, rtm_write};
 pub use nodes::{rtm_one_step, rtm_residence, rtm_two_step};
+pub use sizes::{number, tell};
 pub use tables::{rtm_new, rtm_tick, rtm_waiting};

@@ -4,13 +4,14 @@ ghost use Rattle.stamp.specs.Stamps.{residence_of};
 ghost use Rattle.records.specs.Slots.{Slots};
 ghost use Rattle.rules.specs.Rules.{one_step, two_step, call_of};
 ghost use Rattle.rtm.specs.Stamped.{handed_call};
-ghost use Rattle.node.specs.Answers.{word_answer};
+ghost use Rattle.refusal.specs.Refusal.{answer_of};
 ghost use Rattle.node.specs.Calls.{call_on};
-ghost use Rattle.bunpennant.specs.C.{code_of, told, tell, stamps_of, coded_alone, coded_done, coded_on, coded_call};
+ghost use Rattle.bunpennant.specs.C.{code_of, told, tell, stamp_seconds, stamp_part, stamps_of, coded_alone, coded_done, coded_on, coded_call};
 
-use node::Answer;
-use residence::Residence;
-use stamp::Stamps;
+use crate::sizes;
+use node::Handled;
+use refusal::Refusal;
+use stamp::{Stamps, ntp, ptp};
 
 // The words' codes; a refusal is its number.
 const UPDATED: u8 = 64;
@@ -23,66 +24,61 @@ const WAITING: u8 = 67;
 
 const ADDED: u8 = 68;
 
-fn code_of(answer: Answer) -> u8
-    ensures { result ≡ code_of (word_answer answer) }
+// C's code of an answer.
+fn code_of(answer: Result<Handled, Refusal>) -> u8
+    ensures { result ≡ code_of (answer_of answer) }
 {
     match answer {
-        Answer::Updated => UPDATED,
-        Answer::Passed => PASSED,
-        Answer::Created => CREATED,
-        Answer::Waiting => WAITING,
-        Answer::Added => ADDED,
-        Answer::Refused(n) => n,
+        Ok(Handled::Updated) => UPDATED,
+        Ok(Handled::Passed) => PASSED,
+        Ok(Handled::Created) => CREATED,
+        Ok(Handled::Waiting) => WAITING,
+        Ok(Handled::Added) => ADDED,
+        Err(refusal) => refusal.number(),
     }
 }
 
 // A stamp has its seconds below this, and its nanoseconds or its fraction above.
 const PART: u64 = 4_294_967_296;
 
+// C's flag chooses the format, and a format is a type: a function each.
+fn ntp_stamp(stamp: u64) -> ntp::Stamp
+    ensures { result ≡ record { seconds = stamp_seconds stamp; fraction = stamp_part stamp } }
+{
+    ntp::Stamp {
+        seconds: (stamp % PART) as u32,
+        fraction: (stamp / PART) as u32,
+    }
+}
+
+fn ptp_stamp(stamp: u64) -> ptp::Stamp
+    ensures { result ≡ record { seconds = stamp_seconds stamp; nanoseconds = stamp_part stamp } }
+{
+    ptp::Stamp {
+        seconds: (stamp % PART) as u32,
+        nanoseconds: (stamp / PART) as u32,
+    }
+}
+
 fn stamps_of(ntp: bool, entry: u64, exit: u64) -> Stamps
     ensures { result ≡ stamps_of ntp entry exit }
 {
-    let entry_seconds = (entry % PART) as u32;
-    let entry_part = (entry / PART) as u32;
-    let exit_seconds = (exit % PART) as u32;
-    let exit_part = (exit / PART) as u32;
     if ntp {
-        let before = stamp::ntp::Stamp {
-            seconds: entry_seconds,
-            fraction: entry_part,
-        };
-        let after = stamp::ntp::Stamp {
-            seconds: exit_seconds,
-            fraction: exit_part,
-        };
-        return Stamps::Ntp(before, after);
+        Stamps::Ntp(ntp_stamp(entry), ntp_stamp(exit))
+    } else {
+        Stamps::Ptp(ptp_stamp(entry), ptp_stamp(exit))
     }
-    let before = stamp::ptp::Stamp {
-        seconds: entry_seconds,
-        nanoseconds: entry_part,
-    };
-    let after = stamp::ptp::Stamp {
-        seconds: exit_seconds,
-        nanoseconds: exit_part,
-    };
-    Stamps::Ptp(before, after)
 }
 
-// The residence in pad units: 0, or refusal 9 or 10, which leaves the units as they came.
+/// The residence in pad units: 0, or refusal 9 or 10, which leaves the units as they came.
 pub fn rtm_residence(ntp: bool, entry: u64, exit: u64, units: &mut u64) -> u8
     ensures { told result units.new ≡ tell units.old (residence_of (stamps_of ntp entry exit)) }
 {
-    match stamp::residence_of(stamps_of(ntp, entry, exit)) {
-        Residence::Units(n) => {
-            *units = n;
-            0
-        }
-        Residence::InvalidStamp => refusal::INVALID_STAMP,
-        Residence::TooLong => refusal::TOO_LONG_RESIDENCE,
-    }
+    let residence = stamp::residence_of(stamps_of(ntp, entry, exit));
+    sizes::tell(residence.map_err(Refusal::from), units)
 }
 
-// A message at a one-step node. The call looks at no output and no table, and changes none.
+/// A message at a one-step node. The call looks at no output and no table, and changes none.
 pub fn rtm_one_step(message: &mut [u8], ntp: bool, entry: u64, exit: u64) -> u8
     ensures { (t : Slots) (n : ℕ) (o : List ℕ)
         → coded_alone result message.new o t n
@@ -91,7 +87,7 @@ pub fn rtm_one_step(message: &mut [u8], ntp: bool, entry: u64, exit: u64) -> u8
     code_of(rtm::one_step(message, stamps_of(ntp, entry, exit)))
 }
 
-// A message at a two-step node, whose table is lent.
+/// A message at a two-step node, whose table is lent. Beside rtm_one_step since C's header has both.
 pub fn rtm_two_step(
     words: &mut [u64; 64],
     message: &mut [u8],

@@ -1,19 +1,30 @@
-// The size of what was written, told through a pointer.
+// What was answered, told to C: its value through a pointer, or the refusal's number.
 ghost use Rattle.std.specs.Prelude.{◌≡◌};
-ghost use Rattle.refusal.specs.Written.{written_answer};
+ghost use Rattle.refusal.specs.Answer.{refusal_in};
+ghost use Rattle.refusal.specs.Refusal.{answer_of};
 ghost use Rattle.bunpennant.specs.C.{told, tell};
 
-use refusal::Written;
+use refusal::Refusal;
 
-// 0 and the size, or the refusal's number, which leaves the size as it came.
-pub(crate) fn tell(answer: Written, size: &mut usize) -> u8
-    ensures { told result size.new ≡ tell size.old (written_answer answer) }
+/// 0 and the value, or the refusal's number, which leaves the place as it came.
+pub fn tell<T: Copy>(answer: Result<T, Refusal>, place: &mut T) -> u8
+    ensures { told result place.new ≡ tell place.old (answer_of answer) }
 {
     match answer {
-        Written::Size(n) => {
-            *size = n;
+        Ok(value) => {
+            *place = value;
             0
         }
-        Written::Refused(n) => n,
+        Err(refusal) => refusal.number(),
+    }
+}
+
+/// 0, or the refusal's number.
+pub fn number<T: Copy>(answer: Result<T, Refusal>) -> u8
+    ensures { result ≡ refusal_in (answer_of answer) }
+{
+    match answer {
+        Ok(_) => 0,
+        Err(refusal) => refusal.number(),
     }
 }

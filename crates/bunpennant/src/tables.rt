@@ -5,21 +5,21 @@ ghost use Rattle.records.specs.Number.{read_number};
 ghost use Rattle.words.specs.Words.{number_of};
 ghost use Rattle.words.specs.Answers.{left, new_on, tick_on};
 
-// Makes it a new table: all zeros.
+/// Makes it a new table: all zeros.
 pub fn rtm_new(words: &mut [u64; 64])
     ensures { left (value 0) words.new ≡ new_on }
 {
     lent::clear(words);
 }
 
-// A tick: how many slots it emptied.
+/// A tick: how many slots it emptied.
 pub fn rtm_tick(words: &mut [u64; 64]) -> u8
     ensures { left (value result) words.new ≡ tick_on words.old }
 {
     lent::tick(words)
 }
 
-// How many records wait, by the number that the table keeps: at most 16.
+/// How many records wait, by the number that the table keeps: at most 16.
 pub fn rtm_waiting(words: &[u64; 64]) -> u8
     ensures { result ≡ read_number (number_of words.now) }
 {

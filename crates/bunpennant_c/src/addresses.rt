@@ -4,8 +4,8 @@ ghost use Rattle.refusal.specs.Answer.{value, and_then};
 ghost use Rattle.rtm_set.specs.Entries.{count_of, part_of};
 ghost use Rattle.bunpennant.specs.C.{told, tell, put_part};
 
-// How many entries the list has: 0 and the count, or refusal 19 or 20, which leaves the count as it
-// came.
+/// How many entries the list has: 0 and the count, or refusal 19 or 20, which leaves the count as it
+/// came.
 #[unsafe(no_mangle)]
 pub extern "C" fn rtm_address_count(list: &[u8], count: &mut usize) -> u8
     ensures { told result count.new ≡ tell count.old (count_of list.now) }
@@ -13,8 +13,8 @@ pub extern "C" fn rtm_address_count(list: &[u8], count: &mut usize) -> u8
     bunpennant::rtm_address_count(list, count)
 }
 
-// Where the entry at a place, counted from 0, begins in the list and how long it is: 0, or refusal 19,
-// 20 or 21, which leaves both as they came.
+/// Where the entry at a place, counted from 0, begins in the list and how long it is: 0, or refusal 19,
+/// 20 or 21, which leaves both as they came.
 #[unsafe(no_mangle)]
 pub extern "C" fn rtm_address_entry(list: &[u8], place: usize, entry: &mut [u64; 2]) -> u8
     ensures { told result entry.new

@@ -6,8 +6,8 @@ ghost use Rattle.words.specs.Words.{slots_of};
 ghost use Rattle.table.specs.Table.{load_on};
 ghost use Rattle.bunpennant.specs.C.{sized, sized_of, lent, lent_of};
 
-// Writes the table's image, in the new form: 0 and its size, or refusal 22 or 12, which leaves output
-// and size as they came.
+/// Writes the table's image, in the new form: 0 and its size, or refusal 22 or 12, which leaves output
+/// and size as they came.
 #[unsafe(no_mangle)]
 pub extern "C" fn rtm_write_image(words: &[u64; 64], output: &mut [u8], size: &mut usize) -> u8
     ensures { sized result output.new size.new
@@ -16,7 +16,7 @@ pub extern "C" fn rtm_write_image(words: &[u64; 64], output: &mut [u8], size: &m
     bunpennant::rtm_write_image(words, output, size)
 }
 
-// Loads an image of either form: 0, or refusal 22, which leaves every word as it came.
+/// Loads an image of either form: 0, or refusal 22, which leaves every word as it came.
 #[unsafe(no_mangle)]
 pub extern "C" fn rtm_load_image(words: &mut [u64; 64], image: &[u8]) -> u8
     ensures { lent result words.new ≡ lent_of (load_on image.now words.old) }
@@ -24,8 +24,8 @@ pub extern "C" fn rtm_load_image(words: &mut [u64; 64], image: &[u8]) -> u8
     bunpennant::rtm_load_image(words, image)
 }
 
-// Converts an image of the old form to the new: 0 and its size, or refusal 22 or 12, which leaves
-// output and size as they came.
+/// Converts an image of the old form to the new: 0 and its size, or refusal 22 or 12, which leaves
+/// output and size as they came.
 #[unsafe(no_mangle)]
 pub extern "C" fn rtm_image_to_new(image: &[u8], output: &mut [u8], size: &mut usize) -> u8
     ensures { sized result output.new size.new
@@ -34,8 +34,8 @@ pub extern "C" fn rtm_image_to_new(image: &[u8], output: &mut [u8], size: &mut u
     bunpennant::rtm_image_to_new(image, output, size)
 }
 
-// Converts an image of the new form to the old: 0 and its size, or refusal 22, 27 or 12, which leaves
-// output and size as they came.
+/// Converts an image of the new form to the old: 0 and its size, or refusal 22, 27 or 12, which leaves
+/// output and size as they came.
 #[unsafe(no_mangle)]
 pub extern "C" fn rtm_image_to_old(image: &[u8], output: &mut [u8], size: &mut usize) -> u8
     ensures { sized result output.new size.new

@@ -5,7 +5,7 @@ ghost use Rattle.message.specs.Read.{read_of};
 ghost use Rattle.message.specs.Write.{write_of};
 ghost use Rattle.bunpennant.specs.C.{told, tell, message_fields, fields_in, packet_part, sized, sized_of};
 
-// The message's fields: 0, or the first of refusals 1 to 8, which leaves the struct as it came.
+/// The message's fields: 0, or the first of refusals 1 to 8, which leaves the struct as it came.
 #[unsafe(no_mangle)]
 pub extern "C" fn rtm_read(message: &[u8], fields: &mut [u16; 16]) -> u8
     ensures { told result fields.new
@@ -14,8 +14,8 @@ pub extern "C" fn rtm_read(message: &[u8], fields: &mut [u16; 16]) -> u8
     bunpennant::rtm_read(message, fields)
 }
 
-// The carried packet's offset and length: 0, or the first of refusals 1 to 8, which leaves both as they
-// came.
+/// The carried packet's offset and length: 0, or the first of refusals 1 to 8, which leaves both as they
+/// came.
 #[unsafe(no_mangle)]
 pub extern "C" fn rtm_carried(message: &[u8], packet: &mut [u64; 2]) -> u8
     ensures { told result packet.new
@@ -24,8 +24,8 @@ pub extern "C" fn rtm_carried(message: &[u8], packet: &mut [u64; 2]) -> u8
     bunpennant::rtm_carried(message, packet)
 }
 
-// Writes a message: 0 and its size, or a refusal, which leaves output and size as they came. The order
-// of refusals is 6, 17, 23, 7, 2, 12.
+/// Writes a message: 0 and its size, or a refusal, which leaves output and size as they came. The order
+/// of refusals is 6, 17, 23, 7, 2, 12.
 #[unsafe(no_mangle)]
 pub extern "C" fn rtm_write(
     fields: &[u16; 16],

@@ -7,7 +7,7 @@ ghost use Rattle.rtm.specs.Stamped.{handed_call};
 ghost use Rattle.node.specs.Calls.{call_on};
 ghost use Rattle.bunpennant.specs.C.{told, tell, stamps_of, coded_alone, coded_done, coded_on, coded_call};
 
-// The residence in pad units: 0, or refusal 9 or 10, which leaves the units as they came.
+/// The residence in pad units: 0, or refusal 9 or 10, which leaves the units as they came.
 #[unsafe(no_mangle)]
 pub extern "C" fn rtm_residence(ntp: bool, entry: u64, exit: u64, units: &mut u64) -> u8
     ensures { told result units.new ≡ tell units.old (residence_of (stamps_of ntp entry exit)) }
@@ -15,7 +15,7 @@ pub extern "C" fn rtm_residence(ntp: bool, entry: u64, exit: u64, units: &mut u6
     bunpennant::rtm_residence(ntp, entry, exit, units)
 }
 
-// A message at a one-step node. The call looks at no output and no table, and changes none.
+/// A message at a one-step node. The call looks at no output and no table, and changes none.
 #[unsafe(no_mangle)]
 pub extern "C" fn rtm_one_step(message: &mut [u8], ntp: bool, entry: u64, exit: u64) -> u8
     ensures { (t : Slots) (n : ℕ) (o : List ℕ)
@@ -25,7 +25,7 @@ pub extern "C" fn rtm_one_step(message: &mut [u8], ntp: bool, entry: u64, exit: 
     bunpennant::rtm_one_step(message, ntp, entry, exit)
 }
 
-// A message at a two-step node, whose table is lent.
+/// A message at a two-step node, whose table is lent.
 #[unsafe(no_mangle)]
 pub extern "C" fn rtm_two_step(
     words: &mut [u64; 64],

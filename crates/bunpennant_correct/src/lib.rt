@@ -8,15 +8,10 @@ ghost use Rattle.correction.specs.Correct.{correct_of};
 ghost use Rattle.bunpennant.specs.C.{told};
 ghost use Rattle.bunpennant_correct.specs.Corrections.{told_corrected};
 
-use corrector::Correction;
-
-// The total of a joined pair added to the correctionField of the PTPv2 header that stands at a place
-// of the copy: 0, or a refusal, joining's or 30 to 33, which leaves the copy as it came.
+/// The total of a joined pair added to the correctionField of the PTPv2 header that stands at a place
+/// of the copy: 0, or a refusal, joining's or 30 to 33, which leaves the copy as it came.
 pub fn rtm_correct(sync: &[u8], follow_up: &[u8], place: usize, copy: &mut [u8]) -> u8
     ensures { told result copy.new ≡ told_corrected (correct_of sync.now follow_up.now place copy.old) }
 {
-    match corrector::correct(sync, follow_up, place, copy) {
-        Correction::Field(_) => 0,
-        Correction::Refused(n) => n,
-    }
+    bunpennant::number(corrector::correct(sync, follow_up, place, copy))
 }

@@ -9,7 +9,7 @@ ghost use Rattle.bunpennant_plan.specs.Plans.{plan_told};
 
 use hops::Hop;
 
-// The plan: 0, or refusal 28, 29 or 10, which leaves the struct as it came.
+/// The plan: 0, or refusal 28, 29 or 10, which leaves the struct as it came.
 #[unsafe(no_mangle)]
 pub extern "C" fn rtm_plan(
     hops: &[Hop],

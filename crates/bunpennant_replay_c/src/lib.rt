@@ -9,7 +9,7 @@ ghost use Rattle.report.specs.Report.{report_on};
 ghost use Rattle.bunpennant.specs.C.{told, tell};
 ghost use Rattle.bunpennant_replay.specs.Reports.{report_words};
 
-// The report: 0, or refusal 26, which leaves the struct as it came.
+/// The report: 0, or refusal 26, which leaves the struct as it came.
 #[unsafe(no_mangle)]
 pub extern "C" fn rtm_replay(capture: &[u8], report: &mut [u64; 26]) -> u8
     ensures { told result report.new

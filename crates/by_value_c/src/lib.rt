@@ -4,8 +4,8 @@
 
 ghost use Rattle.std.specs.Prelude.{◌≤◌};
 
-// Hands a Sync and its Follow_Up to a two-step node with a new table, so many times, and answers for
-// how many pairs the Sync was kept and the Follow_Up added to.
+/// Hands a Sync and its Follow_Up to a two-step node with a new table, so many times, and answers for
+/// how many pairs the Sync was kept and the Follow_Up added to.
 #[unsafe(no_mangle)]
 pub extern "C" fn bench_pairs(
     sync: &mut [u8],
@@ -18,7 +18,7 @@ pub extern "C" fn bench_pairs(
     by_value::bench_pairs(sync, follow_up, output, count)
 }
 
-// The same with the table lent.
+/// The same with the table lent.
 #[unsafe(no_mangle)]
 pub extern "C" fn bench_pairs_lent(
     sync: &mut [u8],

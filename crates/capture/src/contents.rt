@@ -4,7 +4,7 @@ ghost use Rattle.capture.specs.Layout.{count_in, start_of};
 
 use crate::layout;
 
-// How many bodies the octets say there are.
+/// How many bodies the octets say there are.
 pub fn count(capture: &[u8]) -> usize
     ensures { (result ≡ count_in capture.now) × (result < 65536) }
 {
@@ -18,7 +18,8 @@ pub(crate) fn start(capture: &[u8], n: usize, k: usize) -> usize
     ensures { result ≡ start_of capture.now k }
 {
     if k < n {
-        return octets::read32(capture, layout::OFFSETS + layout::OFFSET_SIZE * k) as usize;
+        octets::read32(capture, layout::OFFSETS + layout::OFFSET_SIZE * k) as usize
+    } else {
+        capture.len()
     }
-    capture.len()
 }

@@ -4,7 +4,9 @@
 
 mod bodies;
 mod contents;
+mod kinds;
 pub mod layout;
 
 pub use bodies::{body, is_capture};
 pub use contents::count;
+pub use kinds::{Kind, classify};

@@ -6,11 +6,15 @@ use Rattle.stamp.specs.declared.ptp.Stamp.{Stamp}
 use Rattle.stamp.specs.declared.stamps.Stamps.TheVariants.{Ptp}
 use Rattle.stamp.specs.Ptp.{nanoseconds_of, residence_of}
 use Rattle.scratch_pad.specs.Sum.{largest}
-use Rattle.message.specs.Read.{Message, plain, read_of}
+use Rattle.message.specs.declared.fields.Message.{Message}
+use Rattle.message.specs.declared.fields.Message.TheVariants.{Plain}
+use Rattle.message.specs.Read.{read_of}
 use Rattle.message.specs.Write.{plain_octets}
 use Rattle.records.specs.Slots.{Slots, zeros}
 use Rattle.rules.specs.Change.{pad_of}
-use Rattle.rules.specs.Rules.{Mode, one_step, two_step, Call, Word, updated, created, Reply, call_of}
+use Rattle.rules.specs.declared.Handled.{Handled as Word}
+use Rattle.rules.specs.declared.Handled.TheVariants.{Updated as updated, Created as created}
+use Rattle.rules.specs.Rules.{Mode, one_step, two_step, Call, Reply, call_of}
 use Rattle.rtm.specs.Stamped.{stamped_residence}
 use Rattle.egress.specs.Join.{join_of}
 
@@ -97,8 +101,8 @@ rows =
     ∷ row (pad_after (negsuc 98303) 1) (pad (value updated) (negsuc 32767))
     ∷ row (pad_after largest 0) (pad (value updated) largest)
     ∷ row (pad_after largest 1) (pad (value updated) largest)
-    ∷ row (reads (type_one 0x10 0x00)) (fields (value (plain (record { message_type = 1; pad = pos 0 }))))
-    ∷ row (reads (type_one 0x10 0xFF)) (fields (value (plain (record { message_type = 1; pad = pos 0 }))))
+    ∷ row (reads (type_one 0x10 0x00)) (fields (value (Plain (record { message_type = 1; pad = pos 0 }))))
+    ∷ row (reads (type_one 0x10 0xFF)) (fields (value (Plain (record { message_type = 1; pad = pos 0 }))))
     ∷ row (reads (take 15 (type_one 0x10 0x00))) (fields (refused 1))
     ∷ row (reads (type_one 0x11 0x00)) (fields (refused 4))
     ∷ row (reads (type_one 0x20 0x00)) (fields (refused 3))

@@ -11,13 +11,15 @@ use mathlib.Core.Option.{none}
 use lib.IntN.{pos, ◌+ℤ◌}
 use lib.ListN.{replicate}
 use Rattle.refusal.specs.Answer.{value}
-use Rattle.residence.specs.declared.Residence.TheVariants.{InvalidStamp}
+use Rattle.std.specs.Prelude.{Ok, Err}
+use Rattle.residence.specs.declared.ResidenceError.TheVariants.{InvalidStamp}
 use Rattle.records.specs.Slots.{same, holds}
 use Rattle.records.specs.Node.{call}
 use Rattle.image.specs.Image.{sound, differ}
 use Rattle.egress.specs.Join.{shown_of}
 use Rattle.rules.specs.Change.{pad_of}
-use Rattle.rules.specs.Rules.{Mode, one_step, two_step, Call, updated, created, waiting, added}
+use Rattle.rules.specs.declared.Handled.TheVariants.{Updated as updated, Created as created, Waiting as waiting, Added as added}
+use Rattle.rules.specs.Rules.{Mode, one_step, two_step, Call}
 use Rattle.rules.specs.Path.{Stop, Unrefused, Apart, Every, FirstWay, SecondWay, FollowUps, born, residences}
 use Rattle.rules.specs.Credited.{credits}
 use Rattle.rules.proofs.Samples.{new, stayed, spare, handed_in, after, visit, refusing, unrefused, apart, ticks_between, apart_between}
@@ -48,7 +50,7 @@ abbrev sync_third : Call
 sync_third = handed_in two_step (a_sync true 98304000) (stayed 50)
 
 abbrev follow_up_third : Call
-follow_up_third = handed_in two_step (a_follow_up 13107200) InvalidStamp
+follow_up_third = handed_in two_step (a_follow_up 13107200) (Err InvalidStamp)
 
 abbrev alone : Mode → Call → Stop
 alone m c = record { mode = m; table = new; events = call c ∷ []; first_place = 0; second_place = none }
@@ -117,7 +119,7 @@ as_sent = shown_as_sent mine false (a_sync false 0) (a_sync true 98304000) path 
 -- ---- the same with a two-step node before the one that creates, which refuses the Sync with 9
 
 abbrev sync_bad : Call
-sync_bad = handed_in two_step (a_sync false 98304000) InvalidStamp
+sync_bad = handed_in two_step (a_sync false 98304000) (Err InvalidStamp)
 
 abbrev bad : Stop
 bad = alone two_step sync_bad

@@ -15,7 +15,8 @@ use Rattle.scratch_pad.specs.Sum.{largest}
 use Rattle.scratch_pad.proofs.Whole.{above}
 use Rattle.egress.specs.Join.{shown_of}
 use Rattle.rules.specs.Change.{pad_of}
-use Rattle.rules.specs.Rules.{Mode, one_step, two_step, Call, updated, passed, waiting, added}
+use Rattle.rules.specs.declared.Handled.TheVariants.{Updated as updated, Passed as passed, Waiting as waiting, Added as added}
+use Rattle.rules.specs.Rules.{Mode, one_step, two_step, Call}
 use Rattle.rules.specs.Path.{Stop, Unrefused, Apart, Every, FirstWay, SecondWay, FollowUps, existing, residences}
 use Rattle.rules.specs.Credited.{credits}
 use Rattle.rules.proofs.Samples.{new, records_from, stayed, spare, handed_in, visit, refusing, unrefused, ticks_between, apart_between}

@@ -9,7 +9,8 @@ use lib.IntN.{ℤ, pos, negsuc, ◌+ℤ◌, +ℤ_comm}
 use Rattle.octets.specs.Octets.{number}
 use Rattle.refusal.specs.Answer.{Answer, value, refused, refuse, refusal_in}
 use Rattle.refusal.proofs.Answers.{not_both, same_value}
-use Rattle.message.specs.Read.{Message, read_of}
+use Rattle.message.specs.declared.fields.Message.{Message}
+use Rattle.message.specs.Read.{read_of}
 use Rattle.message.proofs.Content.{readable}
 use Rattle.message.proofs.Numbers.{read_numbers}
 use Rattle.scratch_pad.specs.Sum.{largest, too_big, too_low, held, pad_sum}

@@ -8,7 +8,9 @@ use lib.IntN.{ℤ}
 use lib.ListN.{length, length-drop}
 use Rattle.refusal.specs.Answer.{Answer, value, refused}
 use Rattle.refusal.proofs.Answers.{not_both, passes}
-use Rattle.message.specs.Read.{Message, plain, ptp, header, read_of, packet_at, carried_of}
+use Rattle.message.specs.declared.fields.Message.{Message}
+use Rattle.message.specs.declared.fields.Message.TheVariants.{Plain, Ptp}
+use Rattle.message.specs.Read.{header, read_of, packet_at, carried_of}
 use Rattle.message.proofs.Sound.{SoundPtp, ptp_sound, ptp_taken}
 use Rattle.scratch_pad.specs.Sum.{pad_sum}
 use Rattle.egress.specs.Join.{is_pair, join_by, join_of}
@@ -25,15 +27,15 @@ pair s f z e = by_messages (read_of s) (read_of f) refl refl e
     by_messages : (a b : Answer Message) → read_of s ≡ a → read_of f ≡ b → join_by a b ≡ value z → Pair s f z
     by_messages (refused n) b p q r = absurd (not_both r)
     by_messages (value m) (refused n) p q r = absurd (not_both r)
-    by_messages (value (plain h)) (value m) p q r = absurd (not_both r)
-    by_messages (value (ptp h t)) (value (plain g)) p q r = absurd (not_both r)
-    by_messages (value (ptp h t)) (value (ptp g u)) p q r =
+    by_messages (value (Plain h)) (value m) p q r = absurd (not_both r)
+    by_messages (value (Ptp h t)) (value (Plain g)) p q r = absurd (not_both r)
+    by_messages (value (Ptp h t)) (value (Ptp g u)) p q r =
         let x = ptp_sound s h t p in
         let y = ptp_sound f g u q in
         record {
           sync = x.0;
           follow_up = y.0;
-          sum = (λ i. pad_sum (x.1 i).pad (y.1 i).pad) ∙ (passes 18 (not (is_pair (ptp h t) (ptp g u))) (pad_sum h.pad g.pad) z r).1;
+          sum = (λ i. pad_sum (x.1 i).pad (y.1 i).pad) ∙ (passes 18 (not (is_pair (Ptp h t) (Ptp g u))) (pad_sum h.pad g.pad) z r).1;
         }
 
 pub whole : (s : List ℕ) → SoundPtp s → Whole s

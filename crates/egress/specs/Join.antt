@@ -3,10 +3,10 @@ use Rattle.std.specs.Prelude.{ℕ, Bool, false, not, ◌&&◌, List, [], ◌∷�
 use Rattle.refusal.specs.Answer.{Answer, value, refused, refuse, and_then}
 use Rattle.message.specs.declared.fields.Header.{Header}
 use Rattle.message.specs.declared.fields.SubTlv.{SubTlv}
-use Rattle.message.specs.Read.{Message, plain, ptp, read_of, carried_of}
+use Rattle.message.specs.declared.fields.Message.{Message}
+use Rattle.message.specs.declared.fields.Message.TheVariants.{Plain, Ptp}
+use Rattle.message.specs.Read.{header_in, read_of, carried_of}
 use Rattle.scratch_pad.specs.Sum.{pad_sum}
-use Rattle.egress.specs.declared.Joined.{Joined}
-use Rattle.egress.specs.declared.Joined.TheVariants.{Total, Refused}
 
 -- "of the same Type, port and sequence"
 abbrev pub alike : Header → SubTlv → Header → SubTlv → Bool
@@ -15,13 +15,12 @@ alike h t g u =
 
 -- "a Sync message with S set and a Follow_Up message": "The Follow_Up's S is not looked at." Types 1 and 5 are never a pair.
 abbrev pub is_pair : Message → Message → Bool
-is_pair (ptp h t) (ptp g u) = eqb t.ptp_type 0 && (t.two_step && (eqb u.ptp_type 8 && alike h t g u))
-is_pair (ptp h t) (plain g) = false
-is_pair (plain h) m = false
+is_pair (Ptp h t) (Ptp g u) = eqb t.ptp_type 0 && (t.two_step && (eqb u.ptp_type 8 && alike h t g u))
+is_pair (Ptp h t) (Plain g) = false
+is_pair (Plain h) m = false
 
 abbrev pub pad_in : Message → ℤ
-pad_in (plain h) = h.pad
-pad_in (ptp h t) = h.pad
+pad_in m = (header_in m).pad
 
 -- "The total is the sum of the pads.", 2^63-1 where that is too big (document 02, W-205): the Sync's 1 to 8, the Follow_Up's 1 to 8, 18, 11
 abbrev pub join_by : Answer Message → Answer Message → Answer ℤ
@@ -41,7 +40,3 @@ shown_by s f (refused n) = []
 
 abbrev pub shown_of : List ℕ → List ℕ → List ℕ
 shown_of s f = shown_by s f (join_of s f)
-
-abbrev pub join_answer : Joined → Answer ℤ
-join_answer (Total z) = value z
-join_answer (Refused n) = refused n

@@ -1,7 +1,8 @@
 -- What joining keeps of refusal 11 (document 02, W-210).
 use Rattle.std.specs.Prelude.{ℕ, ◌≡◌, Bool, true, false, List, ℤ, pos, negsuc, ◌+ℤ◌}
 use Rattle.refusal.specs.Answer.{value, refused}
-use Rattle.message.specs.Read.{Message, read_of}
+use Rattle.message.specs.declared.fields.Message.{Message}
+use Rattle.message.specs.Read.{read_of}
 use Rattle.scratch_pad.specs.Sum.{too_low}
 use Rattle.egress.specs.Join.{is_pair, pad_in, join_of}
 

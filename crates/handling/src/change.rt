@@ -15,7 +15,7 @@ const FLAGS: usize = layout::VALUE + layout::FLAGS;
 // Octets 24 to 35, port identity and sequence.
 const IDENTITY: usize = layout::VALUE + layout::CLOCK_IDENTITY;
 
-// Adds units to the pad: the largest pad where the sum is that or more.
+/// Adds units to the pad: the largest pad where the sum is that or more.
 pub fn add_to_pad(message: &mut [u8], units: u64)
     ensures { message.new ≡ with_pad message.old (raised (pad_of message.old) units) }
 {
@@ -25,7 +25,7 @@ pub fn add_to_pad(message: &mut [u8], units: u64)
     octets::put(message, layout::SCRATCH_PAD, &octets);
 }
 
-// Sets the S bit, and changes nothing else; a message that has no octet 20 stays as it came.
+/// Sets the S bit, and changes nothing else; a message that has no octet 20 stays as it came.
 pub fn set_two_step(message: &mut [u8])
     ensures { message.new ≡ with_two_step message.old }
 {
@@ -58,16 +58,12 @@ fn put_follow_up(output: &mut [u8], sync: &[u8], units: u64)
     octets::put(output, IDENTITY, &sync[IDENTITY..layout::CARRIED]);
 }
 
-// Writes the Follow_Up of a Sync at the start of the output; one that has no room for its 36 octets
-// stays as it came, and so does any where the Sync has fewer.
+/// Writes the Follow_Up of a Sync at the start of the output; one that has no room for its 36 octets
+/// stays as it came, and so does any where the Sync has fewer.
 pub fn create_follow_up(output: &mut [u8], sync: &[u8], units: u64)
     ensures { output.new ≡ created_in sync.now units output.old }
 {
-    if output.len() < layout::CARRIED {
-        return;
+    if output.len() >= layout::CARRIED && sync.len() >= layout::CARRIED {
+        put_follow_up(output, sync, units);
     }
-    if sync.len() < layout::CARRIED {
-        return;
-    }
-    put_follow_up(output, sync, units);
 }

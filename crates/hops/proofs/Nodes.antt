@@ -10,14 +10,16 @@ use mathlib.Core.Option.{Option, none, some}
 use native.Mathlib.Omega.{arith}
 use lib.ListN.{replicate}
 use Rattle.refusal.specs.Answer.{Answer, value, refused}
-use Rattle.residence.specs.declared.Residence.TheVariants.{Units}
+use Rattle.std.specs.Prelude.{Ok}
 use Rattle.residence.specs.Residence.{accepted_of}
 use Rattle.records.specs.declared.Identity.{Identity}
 use Rattle.records.specs.Slots.{Slots, holds, zeros}
 use Rattle.records.specs.Node.{Event, call, collect, table_answer, table_after}
 use Rattle.records.proofs.Holding.{same_refl}
-use Rattle.rules.specs.Rules.{Kind, sync, follow_up, kind_of, kind_identity, Mode, one_step, two_step, Call, Word, updated, passed, created, waiting}
-use Rattle.rules.specs.Rules.{added, Reply, add_to_pad, update, create, keep, gather, reply_by, keep_request, request_by, rules}
+use Rattle.rules.specs.declared.Handled.{Handled as Word}
+use Rattle.rules.specs.declared.Handled.TheVariants.{Updated as updated, Passed as passed, Created as created, Waiting as waiting, Added as added}
+use Rattle.rules.specs.Rules.{Kind, sync, follow_up, kind_of, kind_identity, Mode, one_step, two_step, Call}
+use Rattle.rules.specs.Rules.{Reply, add_to_pad, update, create, keep, gather, reply_by, keep_request, request_by, rules}
 use Rattle.rules.specs.Path.{Stop, SecondUnrefused, Apart, of_sync}
 use Rattle.rules.proofs.Bearing.{sound_ptp}
 use Rattle.rules.specs.Credited.{says}
@@ -31,7 +33,7 @@ no_records = replicate 16 zeros
 
 -- a call with room for a Follow_Up
 abbrev pub call_on : Mode → ℕ → List ℕ → Call
-call_on m u s = record { mode = m; message = s; residence = Units u; output = replicate 36 0 }
+call_on m u s = record { mode = m; message = s; residence = Ok u; output = replicate 36 0 }
 
 -- the Follow_Up's call, if there is one, and its place
 abbrev pub second_call : Mode → ℕ → Option (List ℕ) → List (Event Call)
@@ -90,21 +92,21 @@ not_refused e a f = let z : ◌≡◌ {A = ℕ} 0 1 = cc in omega arith
 -- the record of a Sync with S set is found
 found :
     (q : Identity) (u : ℕ)
-    → accepted_of (Units u) ≡ value u
-    → table_answer (collect q) (table_after (keep_request q (accepted_of (Units u))) no_records) ≡ value u
+    → accepted_of (Ok u) ≡ value u
+    → table_answer (collect q) (table_after (keep_request q (accepted_of (Ok u))) no_records) ≡ value u
 unfolding holds
 found q u accepted = rw (accepted, same_refl q)
 
-module _ (q : Identity) (u : ℕ) (accepted : accepted_of (Units u) ≡ value u) (s : List ℕ) where
+module _ (q : Identity) (u : ℕ) (accepted : accepted_of (Ok u) ≡ value u) (s : List ℕ) where
   -- the answer to the Sync
   pub first_answer_lem : (m : Mode) (b : Bool) → kind_of s ≡ sync q b → (first_reply m u s).answer ≡ value (first_word m b)
   unfolding holds
   first_answer_lem m b k =
-      ap (λ (x : Kind). (reply_by m (call_on m u s) (table_answer (request_by m (Units u) x) no_records) x).answer) k ∙ by m b
+      ap (λ (x : Kind). (reply_by m (call_on m u s) (table_answer (request_by m (Ok u) x) no_records) x).answer) k ∙ by m b
     where
       by :
           (m : Mode) (b : Bool)
-          → (reply_by m (call_on m u s) (table_answer (request_by m (Units u) (sync q b)) no_records) (sync q b)).answer ≡ value (first_word m b)
+          → (reply_by m (call_on m u s) (table_answer (request_by m (Ok u) (sync q b)) no_records) (sync q b)).answer ≡ value (first_word m b)
       by one_step b = ap (λ (x : Answer ℕ). (update (call_on one_step u s) x).answer) accepted
       by two_step true = ap (λ (x : Answer ℕ). (keep (call_on two_step u s) x (table_answer (keep_request q x) no_records)).answer) accepted
       by two_step false = ap (λ (x : Answer ℕ). (create (call_on two_step u s) x).answer) accepted
@@ -123,7 +125,7 @@ module _ (q : Identity) (u : ℕ) (accepted : accepted_of (Units u) ≡ value u)
     second_reply_lem m = (λ i. by_kinds m (k i) (l i)) ∙ by m
       where
         by_kinds : Mode → Kind → Kind → Reply
-        by_kinds m x y = reply_by m (call_on m u f) (table_answer (request_by m (Units u) y) (table_after (request_by m (Units u) x) no_records)) y
+        by_kinds m x y = reply_by m (call_on m u f) (table_answer (request_by m (Ok u) y) (table_after (request_by m (Ok u) x) no_records)) y
 
         by : (m : Mode) → by_kinds m (sync q true) (follow_up q) ≡ after (second_word m) (second_left m u f) (replicate 36 0)
         by one_step = refl

@@ -15,12 +15,14 @@ use mir.Syntax.{w64}
 use mir.Val.{SFits}
 use Rattle.refusal.specs.Answer.{Answer, value, refused, refuse}
 use Rattle.refusal.proofs.Answers.{same_value}
-use Rattle.residence.specs.declared.Residence.TheVariants.{Units}
+use Rattle.std.specs.Prelude.{Ok}
 use Rattle.residence.specs.Residence.{limit, accepted_of}
 use Rattle.records.specs.declared.Identity.{Identity}
 use Rattle.records.specs.Node.{table_answer}
 use Rattle.rules.specs.Change.{pad_of, with_pad}
-use Rattle.rules.specs.Rules.{Kind, sync, follow_up, kind_of, kind_identity, Mode, one_step, two_step, Word, created}
+use Rattle.rules.specs.declared.Handled.{Handled as Word}
+use Rattle.rules.specs.declared.Handled.TheVariants.{Created as created}
+use Rattle.rules.specs.Rules.{Kind, sync, follow_up, kind_of, kind_identity, Mode, one_step, two_step}
 use Rattle.rules.specs.Rules.{rules}
 use Rattle.rules.specs.Path.{Stop, Unrefused, SecondUnrefused, Apart, Every, FirstWay, SecondWay, Uncrossed, first_answer}
 use Rattle.rules.specs.Path.{FollowUps, existing, born, never, units_of}
@@ -61,7 +63,7 @@ no_route q s = record { nodes = []; last = s; apart = tt; unrefused = tt; sync_w
 in_front :
     (q : Identity) (m : Mode) (b : Bool) (h : Hop) (hs : List Hop) (s : List ℕ) (o : Option (List ℕ))
     → mode_number m ≡ h.mode
-    → accepted_of (Units h.residence) ≡ value h.residence
+    → accepted_of (Ok h.residence) ≡ value h.residence
     → kind_of s ≡ sync q b
     → SecondUnrefused (node m h.residence s o)
     → Route q hs (first_reply m h.residence s).message
@@ -99,7 +101,7 @@ a_mode n e = by (eqb n 1) refl (eqb n 2) refl e
     by false x true y z = (two_step, sym (eqb-true n 2 y))
     by false x false y z = absurd (true≢false (sym z))
 
-taken : (h : Hop) → Good h → (m : Mode) × (mode_number m ≡ h.mode) × (accepted_of (Units h.residence) ≡ value h.residence)
+taken : (h : Hop) → Good h → (m : Mode) × (mode_number m ≡ h.mode) × (accepted_of (Ok h.residence) ≡ value h.residence)
 taken h g =
     let u = h.residence in
     let (m, number) = a_mode h.mode g.0 in
@@ -139,7 +141,7 @@ module _ (q : Identity) where
       by :
           (m : Mode)
           → mode_number m ≡ h.mode
-          → accepted_of (Units u) ≡ value u
+          → accepted_of (Ok u) ≡ value u
           → ((s : List ℕ) → kind_of s ≡ sync q false → SyncCrosses hs s)
           → SyncCrosses (h ∷ hs) s
       by one_step number ok clear =

@@ -10,14 +10,16 @@ use lib.Dec.{eqb}
 use lib.IntN.{ℤ, pos}
 use lib.ListN.{get_elem?, length-map}
 use Rattle.refusal.specs.Answer.{Answer, value, refused}
-use Rattle.residence.specs.declared.Residence.{Residence}
+use Rattle.residence.specs.Residence.{Residence}
 use Rattle.residence.specs.Residence.{limit, accepted_of}
 use Rattle.residence.proofs.Limit.{below_limit}
 use Rattle.records.specs.declared.Identity.{Identity}
 use Rattle.records.specs.Node.{Event, tick, call, switchover, Result}
 use Rattle.scratch_pad.specs.Sum.{raised}
 use Rattle.rules.specs.Change.{pad_of}
-use Rattle.rules.specs.Rules.{sync, kind_of, Mode, one_step, two_step, Call, Word, updated, created, added, Reply}
+use Rattle.rules.specs.declared.Handled.{Handled as Word}
+use Rattle.rules.specs.declared.Handled.TheVariants.{Updated as updated, Created as created, Added as added}
+use Rattle.rules.specs.Rules.{sync, kind_of, Mode, one_step, two_step, Call, Reply}
 use Rattle.rules.specs.Path.{Stop, Unrefused, Every, of_sync, FirstWay, FollowUps, existing, born, never, answer_in, first_answer, units_of, units_in, residence_at}
 use Rattle.rules.specs.Credited.{says, some_created}
 use Rattle.rules.proofs.Calls.{when, FirstSays, refused_first, updated_first, created_first, waiting_first, refused_second, passed_second, added_second}

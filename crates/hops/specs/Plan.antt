@@ -1,13 +1,11 @@
 -- The plan of a path, "the pads that a path would show before it is built" (document 02, W-212; refusals 28, 29 and 10).
 use Rattle.std.specs.Prelude.{ℕ, ◌+◌, Bool, false, cond, not, ◌||◌, List, [], ◌∷◌, ltb, leb, eqb, ℤ, pos, length}
-use Rattle.refusal.specs.Answer.{Answer, value, refused, refuse}
+use Rattle.refusal.specs.Answer.{Answer, value, refuse}
 use Rattle.residence.specs.Residence.{limit}
 use Rattle.scratch_pad.specs.Sum.{raised}
 use Rattle.hops.specs.declared.Hop.{Hop}
 use Rattle.hops.specs.declared.Start.{Start}
 use Rattle.hops.specs.declared.End.{End}
-use Rattle.hops.specs.declared.Planned.{Planned}
-use Rattle.hops.specs.declared.Planned.TheVariants.{Shows, Refused}
 
 -- "Take a list of hops, each a mode and a stay": 1 is one-step, 2 two-step
 abbrev pub is_mode : ℕ → Bool
@@ -57,7 +55,3 @@ checked (h ∷ hs) next = refuse 29 (not (is_mode h.mode)) (refuse 10 (leb limit
 -- "28 for over 255 hops", "28 first"
 abbrev pub plan_of : List Hop → Start → Answer End
 plan_of hs s = refuse 28 (ltb 255 (length hs)) (checked hs (value (end_of hs s)))
-
-abbrev pub planned_answer : Planned → Answer End
-planned_answer (Shows e) = value e
-planned_answer (Refused n) = refused n

@@ -95,11 +95,6 @@ module _ (F : Form) where
       ap (λ (b : Bool). refuse 22 (not b) (refuse 27 (not (tells F rs)) (value (octets_in F rs)))) h
       ∙ ap (λ (b : Bool). refuse 27 (not b) (value (octets_in F rs))) w
 
-  pub image_untold : (rs : Slots) → loadable rs ≡ true → tells F rs ≡ false → image_in F rs ≡ refused 27
-  image_untold rs h w =
-      ap (λ (b : Bool). refuse 22 (not b) (refuse 27 (not (tells F rs)) (value (octets_in F rs)))) h
-      ∙ ap (λ (b : Bool). refuse 27 (not b) (value (octets_in F rs))) w
-
   pub image_sound :
       (rs : Slots) (s : List ℕ) → image_in F rs ≡ value s → (loadable rs ≡ true) × (tells F rs ≡ true) × (octets_in F rs ≡ s)
   image_sound rs s e =

@@ -1,4 +1,5 @@
 -- The table as an image, written, loaded and converted (document 02, W-201 and W-211).
+use Rattle.std.specs.List.{list_all}
 use Rattle.std.specs.Prelude.{ℕ, zero, suc, ◌-◌, Bool, true, false, cond, not, ◌&&◌, List, [], ◌∷◌, ◌++◌, map, ltb, leb, eqb, length, get_or, drop, replicate}
 use Rattle.octets.specs.Octets.{number}
 use Rattle.refusal.specs.Answer.{Answer, value, refused, refuse, and_then}
@@ -56,8 +57,7 @@ unfoldable pub sound : Record → Bool
 sound r = right_wait r && (right_residence r && fit (widths New) (body_of New r))
 
 abbrev pub every : (Record → Bool) → Slots → Bool
-every p [] = true
-every p (r ∷ rs) = p r && every p rs
+every p rs = list_all p rs
 
 -- "identities differ": in kind, port or sequence
 unfoldable pub differ : Identity → Record → Bool

@@ -1,7 +1,7 @@
 -- The walks over the two lists: the entries behind an octet, and the hops that were searched in vain.
 -- Assumes nothing.
 use Prim.Native.Nat.{ℕ, suc, ◌+◌, ◌-◌, ◌<◌, ◌≤◌}
-use mathlib.Core.Path.{◌≡◌, refl, sym, ap, ◌∙◌}
+use mathlib.Core.Path.{◌≡◌, sym, ap, ◌∙◌}
 use mathlib.Core.Bool.{true, false, cond, true≢false, and-eq-true_iff}
 use mathlib.Core.List.{List, [], ◌∷◌}
 use mathlib.Core.Option.{Option, none, some}
@@ -11,8 +11,8 @@ use borrow.Author.Tests.{lt-ltb, ltb-true, lt-leb}
 use lib.Dec.{ltb}
 use lib.ListN.{length, get_or, take, drop, length-drop, drop_of_length-le}
 use lib.Seq.{drop-cons, drop-drop, get_or-drop, length-take-le}
-use Rattle.refusal.specs.Answer.{refused, and_then}
-use Rattle.rtm_set.specs.Entries.{front_size, is_entry, entries_of, entries_in, Sound}
+use Rattle.refusal.specs.Answer.{and_then}
+use Rattle.rtm_set.specs.Entries.{front_size, is_entry, entries_in, Sound}
 use Rattle.rtm_set.proofs.Rest.{Front, front}
 use Rattle.rtm_set.proofs.Counts.{front_least}
 use Rattle.rtm_set.proofs.Sound.{entry_first, rest_sound, first_rest}
@@ -20,7 +20,7 @@ use Rattle.label_stack.specs.Ttl.{occurs, timing_at, next_timing, found, searche
 use Rattle.label_stack.proofs.Least.{NonePasses, least_is, least-none}
 
 -- an entry stands at octet i of a list, and its second octet tells its length
-pub entry_at : (s : List ℕ) (i : ℕ) → Sound (drop i s) → i < length s → Front (drop i s) (get_or s (i + 1) 0)
+entry_at : (s : List ℕ) (i : ℕ) → Sound (drop i s) → i < length s → Front (drop i s) (get_or s (i + 1) 0)
 entry_at s i sound h =
     let n = front_size (drop i s) in
     let is = entry_first (drop i s) sound (λ z. omega (arith, length-drop i s)) in
@@ -31,12 +31,24 @@ entry_at s i sound h =
 pub part_at : (s : List ℕ) (i n : ℕ) → take (i + n - i) (drop i s) ≡ take n (drop i s)
 part_at s i n = let e : i + n - i ≡ n = omega arith in rw e
 
-pub part_length : (s : List ℕ) (i n : ℕ) → Front (drop i s) n → 4 ≤ length (take (i + n - i) (drop i s))
-part_length s i n f = rw (part_at s i n, length-take-le n (drop i s) f.fits) (omega (arith, front_least (drop i s) n f))
+-- where a walk stands: the entry there ends within the list, has eight octets or more, and is a part of four or more
+pub record Here (s : List ℕ) (i : ℕ) : Type 0 where
+  pub front : Front (drop i s) (get_or s (i + 1) 0)
+  pub ends : i + get_or s (i + 1) 0 ≤ length s
+  pub least : 8 ≤ get_or s (i + 1) 0
+  pub long : 4 ≤ length (take (i + get_or s (i + 1) 0 - i) (drop i s))
 
--- it has eight octets or more, and ends within the list
-pub entry_ends : (s : List ℕ) (i n : ℕ) → i < length s → Front (drop i s) n → (i + n ≤ length s) × (8 ≤ n)
-entry_ends s i n h f = (omega (arith, f.fits, length-drop i s), front_least (drop i s) n f)
+pub here : (s : List ℕ) (i : ℕ) → Sound (drop i s) → i < length s → Here s i
+here s i sound h =
+    let n = get_or s (i + 1) 0 in
+    let f = entry_at s i sound h in
+    let least = front_least (drop i s) n f in
+    record {
+      front = f;
+      ends = omega (arith, f.fits, length-drop i s);
+      least = least;
+      long = rw (part_at s i n, length-take-le n (drop i s) f.fits) (omega (arith, least));
+    }
 
 -- the list behind it
 pub sound_behind : (s : List ℕ) (i n : ℕ) → Sound (drop i s) → Front (drop i s) n → Sound (drop (i + n) s)
@@ -60,9 +72,6 @@ module _ (h : List ℕ) (set : List (List ℕ)) (p : ℕ) where
     pub sound : Sound (drop i h)
     pub left : entries_in (drop i h) ≡ drop k (entries_in h)
     pub none_yet : NonePasses (timing_at (entries_in h) set p) 1 (k - p)
-
-  pub walked_start : Sound h → Walked 0 0
-  walked_start sound = record { sound = sound; left = refl; none_yet = λ e l m f. omega arith }
 
   module _ (i k n : ℕ) (w : Walked i k) (f : Front (drop i h) n) where
     split : drop k (entries_in h) ≡ take n (drop i h) ∷ entries_in (drop (i + n) h)
@@ -115,13 +124,6 @@ module _ (h : List ℕ) (set : List (List ℕ)) (p : ℕ) where
 pub answered : (hops set : List (List ℕ)) (p : ℕ) (o : Option ℕ) → p < length hops → next_timing hops set p ≡ o → found o ≡ searched hops set p
 answered hops set p o l e = sym (rw (lt-leb (length hops) p l) (ap found e))
 
--- the whole answer, by what was read of the two lists
-module _ (h s : List ℕ) (p : ℕ) where
-  pub both_sound : Sound h → Sound s → searched (entries_in h) (entries_in s) p ≡ ttl_of h s p
-  both_sound e f = λ i. and_then (e i) (λ hops. and_then (f i) (λ set. searched hops set p))
-
-  pub set_refused : (n : ℕ) → Sound h → entries_of s ≡ refused n → refused n ≡ ttl_of h s p
-  set_refused n e f = λ i. and_then (e i) (λ hops. and_then (sym f i) (λ set. searched hops set p))
-
-  pub hops_refused : (n : ℕ) → entries_of h ≡ refused n → refused n ≡ ttl_of h s p
-  hops_refused n e = λ i. and_then (sym e i) (λ hops. and_then (entries_of s) (λ set. searched hops set p))
+-- the whole answer, of two lists that are not refused
+pub both_sound : (h s : List ℕ) (p : ℕ) → Sound h → Sound s → searched (entries_in h) (entries_in s) p ≡ ttl_of h s p
+both_sound h s p e f = λ i. and_then (e i) (λ hops. and_then (f i) (λ set. searched hops set p))

@@ -1,4 +1,3 @@
 pub mod Ttl
 pub mod Labels
-pub mod Answers
 pub mod Promises

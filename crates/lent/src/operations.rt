@@ -1,5 +1,5 @@
 // What is done with a lent table, and how many records wait in it.
-ghost use Rattle.std.specs.Prelude.{◌≡◌, cond, not, ◌&&◌, ◌+◌, ◌*◌, ◌/◌, ◌%◌, ◌<◌, ◌≤◌, eqb, length, get_or};
+ghost use Rattle.std.specs.Prelude.{◌≡◌, cond, not, ◌&&◌, ◌+◌, ◌*◌, ◌/◌, ◌%◌, ◌≤◌, eqb, length, get_or};
 ghost use Rattle.refusal.specs.Answer.{value};
 ghost use Rattle.records.specs.declared.Identity.{Identity};
 ghost use Rattle.records.specs.Slots.{holds, empty, lowest};
@@ -8,65 +8,54 @@ ghost use Rattle.records.specs.Number.{read_number};
 ghost use Rattle.words.specs.Words.{slots_of, number_of, key_of, put_slot, put_record, with_number, age_slot};
 ghost use Rattle.words.specs.Answers.{left, new_on, request_on, tick_on};
 ghost use Rattle.words.specs.Meaning.{IdentityFits, RecordFits};
-ghost use Rattle.lent.specs.Answers.{entry_answer, found_answer};
+ghost use Rattle.refusal.specs.Refusal.{answer_of};
+ghost use Rattle.lent.specs.Answers.{entry_answer, place_of};
 
-use crate::{Entry, Found, layout, packed};
+use crate::layout::Slot;
+use crate::{layout, packed};
 use records::{Identity, Record, number};
+use refusal::Refusal;
 
-// How many words there are; called for what it lets a proof know.
-pub(crate) fn size(words: &[u64]) -> usize
-    ensures { result ≡ length words.now }
-{
-    words.len()
-}
-
-// Slot k holds a record with this key and clock identity. The clock is read where the key is found.
-fn holds(words: &[u64; 64], k: usize, key: u64, clock: u64) -> bool
-    requires { k < 16 }
+// The slot holds a record with this key and clock identity. The clock is read where the key is found.
+fn holds(words: &[u64; 64], slot: Slot, key: u64, clock: u64) -> bool
     ensures { result
-        ≡ ((eqb key (get_or words.now (k * 3 + 17) 0 / 65536 % 8589934592) && not (eqb (get_or words.now (k * 3 + 17) 0 % 256) 0))
-        && eqb clock (get_or words.now (k * 3 + 16) 0)) }
+        ≡ ((eqb key (get_or words.now (slot.number * 3 + 17) 0 / 65536 % 8589934592) && not (eqb (get_or words.now (slot.number * 3 + 17) 0 % 256) 0))
+        && eqb clock (get_or words.now (slot.number * 3 + 16) 0)) }
 {
-    if !packed::has_key(words[k * layout::SLOT + layout::PACKED], key) {
-        return false;
-    }
-    clock == words[k * layout::SLOT + layout::CLOCK]
+    packed::has_key(words[slot.packed()], key) && clock == words[slot.clock()]
 }
 
-// The lowest slot that holds a record of the identity with this key and clock identity; 16 where none
-// does.
-fn place(words: &[u64; 64], key: u64, clock: u64) -> usize
+// The lowest slot that holds a record of the identity with this key and clock identity.
+fn place(words: &[u64; 64], key: u64, clock: u64) -> Option<Slot>
     ensures { (q : Identity)
         → key ≡ key_of q
         → clock ≡ q.clock
         → IdentityFits q
-        → result ≡ lowest (holds q) (slots_of words.now) }
+        → place_of result ≡ lowest (holds q) (slots_of words.now) }
 {
-    let mut i: usize = 0;
-    while i < layout::SLOTS {
-        if holds(words, i, key, clock) {
-            return i;
+    for i in 0..layout::SLOTS {
+        let slot = Slot { number: i };
+        if holds(words, slot, key, clock) {
+            return Some(slot);
         }
-        i += 1;
     }
-    layout::SLOTS
+    None
 }
 
-// The lowest empty slot; 16 where none is.
-fn vacancy(words: &[u64; 64]) -> usize
-    ensures { result ≡ lowest empty (slots_of words.now) }
+// The lowest empty slot.
+fn vacancy(words: &[u64; 64]) -> Option<Slot>
+    ensures { place_of result ≡ lowest empty (slots_of words.now) }
 {
-    let mut i: usize = 0;
-    while i < layout::SLOTS {
-        if words[i * layout::SLOT + layout::PACKED] % layout::OCTET == 0 {
-            return i;
+    for i in 0..layout::SLOTS {
+        let slot = Slot { number: i };
+        if words[slot.packed()] % layout::OCTET == 0 {
+            return Some(slot);
         }
-        i += 1;
     }
-    layout::SLOTS
+    None
 }
 
-// The number as it is kept.
+/// The number as it is kept.
 #[tactic(auto, unfolding(words::specs::Words::number_of))]
 pub fn number(words: &[u64; 64]) -> u8
     ensures { result ≡ number_of words.now }
@@ -81,120 +70,106 @@ pub(crate) fn set_number(words: &mut [u64; 64], number: u8)
     words[layout::NUMBER] = packed::with_number(words[layout::NUMBER], number);
 }
 
-fn put(words: &mut [u64; 64], k: usize, clock: u64, packed: u64, residence: u64)
-    requires { k < 16 }
-    ensures { words.new ≡ put_slot words.old k clock packed residence }
+#[tactic(auto, unfolding(words::specs::Words::put_slot))]
+fn put(words: &mut [u64; 64], slot: Slot, clock: u64, packed: u64, residence: u64)
+    ensures { words.new ≡ put_slot words.old slot.number clock packed residence }
 {
-    words[k * layout::SLOT + layout::CLOCK] = clock;
-    words[k * layout::SLOT + layout::PACKED] = packed;
-    words[k * layout::SLOT + layout::RESIDENCE] = residence;
+    words[slot.clock()] = clock;
+    words[slot.packed()] = packed;
+    words[slot.residence()] = residence;
 }
 
-// Puts a record into slot k. The ranges are for the proofs of callers.
-pub(crate) fn put_record(words: &mut [u64; 64], k: usize, slot: Record)
-    requires { k < 16 }
-    ensures { (words.new ≡ put_record words.old k slot) × RecordFits slot }
+// Puts a record into a slot. The ranges are for the proofs of callers.
+pub(crate) fn put_record(words: &mut [u64; 64], slot: Slot, entry: Record)
+    ensures { (words.new ≡ put_record words.old slot.number entry) × RecordFits entry }
 {
     put(
         words,
-        k,
-        slot.clock,
-        packed::packed_of(slot),
-        slot.residence,
+        slot,
+        entry.clock,
+        packed::packed_of(entry),
+        entry.residence,
     );
 }
 
-fn residence_at(words: &[u64; 64], k: usize) -> u64
-    requires { k < 16 }
-    ensures { result ≡ get_or words.now (k * 3 + 18) 0 }
+fn residence_at(words: &[u64; 64], slot: Slot) -> u64
+    ensures { result ≡ get_or words.now (slot.number * 3 + 18) 0 }
 {
-    words[k * layout::SLOT + layout::RESIDENCE]
+    words[slot.residence()]
 }
 
-// Makes it a table with no records: all zeros.
+/// Makes it a table with no records: all zeros.
+#[tactic(auto, unfolding(words::specs::Words::decoded, words::specs::Words::slots_of, words::specs::Words::number_of))]
 pub fn clear(words: &mut [u64; 64])
     ensures { left (value 0) words.new ≡ new_on }
 {
     *words = [0; 64];
 }
 
-// How many records wait, by the number that the table keeps: at most 16. No slot is looked at.
+/// How many records wait, by the number that the table keeps: at most 16. No slot is looked at.
 pub fn waiting(words: &[u64; 64]) -> u8
     ensures { result ≡ read_number (number_of words.now) }
 {
     number::read(number(words))
 }
 
-// Puts a record with a wait of 3 into the lowest empty slot; refusal 13 where one with its identity
-// waits already, 14 where no slot is empty.
-pub fn add(words: &mut [u64; 64], identity: Identity, residence: u64) -> Entry
+/// Puts a record with a wait of 3 into the lowest empty slot; refusal 13 where one with its
+/// identity waits already, 14 where no slot is empty.
+pub fn add(words: &mut [u64; 64], identity: Identity, residence: u64) -> Result<(), Refusal>
     ensures { left (entry_answer result) words.new ≡ request_on (request_add identity residence) words.old }
 {
-    let n = size(words);
     let kept = number(words);
-    if place(words, packed::key_of(identity), identity.clock) < layout::SLOTS {
-        return Entry::Refused(refusal::ALREADY_WAITING);
+    if place(words, packed::key_of(identity), identity.clock).is_some() {
+        return Err(Refusal::AlreadyWaiting);
     }
-    let vacancy = vacancy(words);
-    if layout::SLOTS <= vacancy {
-        return Entry::Refused(refusal::NO_EMPTY_SLOT);
-    }
-    let kind = identity.kind;
-    let slot = Record {
+    let slot = vacancy(words).ok_or(Refusal::NoEmptySlot)?;
+    let entry = Record {
         clock: identity.clock,
         port: identity.port,
         sequence: identity.sequence,
-        kind,
+        kind: identity.kind,
         residence,
         wait: 3,
     };
-    put_record(words, vacancy, slot);
+    put_record(words, slot, entry);
     set_number(words, number::one_more(kept));
-    Entry::Waiting
+    Ok(())
 }
 
-// Takes the record with this identity out; refusal 15 where there is none.
-pub fn collect(words: &mut [u64; 64], identity: Identity) -> Found
-    ensures { left (found_answer result) words.new ≡ request_on (request_collect identity) words.old }
+/// Takes the record with this identity out; refusal 15 where there is none.
+pub fn collect(words: &mut [u64; 64], identity: Identity) -> Result<u64, Refusal>
+    ensures { left (answer_of result) words.new ≡ request_on (request_collect identity) words.old }
 {
-    let n = size(words);
-    let at = place(words, packed::key_of(identity), identity.clock);
-    if layout::SLOTS <= at {
-        return Found::Refused(refusal::NO_RECORD);
-    }
-    let residence = residence_at(words, at);
+    let slot = place(words, packed::key_of(identity), identity.clock).ok_or(Refusal::NoRecord)?;
+    let residence = residence_at(words, slot);
     let kept = number(words);
-    put(words, at, 0, 0, 0);
+    put(words, slot, 0, 0, 0);
     set_number(words, number::fewer(1, kept));
-    Found::Residence(residence)
+    Ok(residence)
 }
 
-// A slot after a tick, and 1 where it was emptied.
-fn age(words: &mut [u64; 64], k: usize) -> u8
-    requires { k < 16 }
-    ensures value { (result ≡ cond (eqb (get_or words.old (k * 3 + 17) 0 % 256) 1) 1 0) × (result ≤ 1) }
-    ensures words_after { words.new ≡ age_slot words.old k }
+// A slot after a tick, and whether it was emptied.
+fn age(words: &mut [u64; 64], slot: Slot) -> bool
+    ensures value { result ≡ eqb (get_or words.old (slot.number * 3 + 17) 0 % 256) 1 }
+    ensures words_after { words.new ≡ age_slot words.old slot.number }
 {
-    let packed = words[k * layout::SLOT + layout::PACKED];
+    let packed = words[slot.packed()];
     if packed % layout::OCTET == 1 {
-        put(words, k, 0, 0, 0);
-        return 1;
+        put(words, slot, 0, 0, 0);
+        return true;
     }
-    words[k * layout::SLOT + layout::PACKED] = packed::lowered(packed);
-    0
+    words[slot.packed()] = packed::lowered(packed);
+    false
 }
 
-// Lowers every wait above 0 by one, empties the slots whose wait reaches 0, and counts them.
+/// Lowers every wait above 0 by one, empties the slots whose wait reaches 0, and counts them.
 pub fn tick(words: &mut [u64; 64]) -> u8
     ensures { left (value result) words.new ≡ tick_on words.old }
 {
-    let n = size(words);
     let kept = number(words);
     let mut emptied: u8 = 0;
-    let mut i: usize = 0;
-    while i < layout::SLOTS {
-        emptied += age(words, i);
-        i += 1;
+    for i in 0..layout::SLOTS {
+        emptied += u8::from(age(words, Slot { number: i }));
     }
     set_number(words, number::fewer(emptied, kept));
     emptied

@@ -12,9 +12,9 @@ use records::{Identity, Record, RecordKind};
 pub(crate) fn key_of(identity: Identity) -> u64
     ensures { (result ≡ key_of identity) × IdentityFits identity }
 {
-    let kind = identity.kind;
-    (kind.number() as u64 * layout::BITS_16 + identity.port as u64) * layout::BITS_16
-        + identity.sequence as u64
+    (u64::from(identity.kind.number()) * layout::BITS_16 + u64::from(identity.port))
+        * layout::BITS_16
+        + u64::from(identity.sequence)
 }
 
 // The packed word of a record.
@@ -22,17 +22,14 @@ pub(crate) fn key_of(identity: Identity) -> u64
 pub(crate) fn packed_of(slot: Record) -> u64
     ensures { (result ≡ packed_of slot) × RecordFits slot }
 {
-    key_of(slot.identity()) * layout::SEQUENCE + slot.wait as u64
+    key_of(slot.identity()) * layout::SEQUENCE + u64::from(slot.wait)
 }
 
 // A slot with this packed word holds a record with this key.
 pub(crate) fn has_key(packed: u64, key: u64) -> bool
     ensures { result ≡ (eqb key (packed / 65536 % 8589934592) && not (eqb (packed % 256) 0)) }
 {
-    if key != packed / layout::SEQUENCE % layout::KEYS {
-        return false;
-    }
-    packed % layout::OCTET != 0
+    key == packed / layout::SEQUENCE % layout::KEYS && packed % layout::OCTET != 0
 }
 
 // The packed word with a wait above 0 lowered by one.
@@ -40,18 +37,20 @@ pub(crate) fn lowered(packed: u64) -> u64
     ensures { result ≡ cond (eqb (packed % 256) 0) packed (packed - 1) }
 {
     if packed % layout::OCTET == 0 {
-        return packed;
+        packed
+    } else {
+        packed - 1
     }
-    packed - 1
 }
 
+// The kind that a bit says: no From, since an octet of an image says it otherwise.
 fn kind_of(bit: u64) -> RecordKind
     ensures { result ≡ kind_bit bit }
 {
-    if bit == 0 {
-        return RecordKind::Sync;
+    match bit {
+        0 => RecordKind::Sync,
+        _ => RecordKind::Delay,
     }
-    RecordKind::Delay
 }
 
 // The slot in three words.
@@ -59,12 +58,11 @@ fn kind_of(bit: u64) -> RecordKind
 pub(crate) fn decode(clock: u64, packed: u64, residence: u64) -> Record
     ensures { result ≡ decoded clock packed residence }
 {
-    let kind = kind_of(packed / layout::KIND % 2);
     Record {
         clock,
         port: (packed / layout::PORT % layout::BITS_16) as u16,
         sequence: (packed / layout::SEQUENCE % layout::BITS_16) as u16,
-        kind,
+        kind: kind_of(packed / layout::KIND % 2),
         residence,
         wait: (packed % layout::OCTET) as u8,
     }
@@ -74,5 +72,5 @@ pub(crate) fn decode(clock: u64, packed: u64, residence: u64) -> Record
 pub(crate) fn with_number(word: u64, number: u8) -> u64
     ensures { result ≡ word / 256 * 256 + number }
 {
-    word / layout::OCTET * layout::OCTET + number as u64
+    word / layout::OCTET * layout::OCTET + u64::from(number)
 }

@@ -1,3 +1,2 @@
+pub mod Flag
 pub mod Places
-pub mod Placing
-pub mod Refusals

@@ -4,7 +4,9 @@ use Rattle.io.specs.Digits.{last_digits}
 use Rattle.refusal.specs.Answer.{Answer, value, refused}
 use Rattle.message.specs.declared.fields.Header.{Header}
 use Rattle.message.specs.declared.fields.SubTlv.{SubTlv}
-use Rattle.message.specs.Read.{Message, plain, ptp, read_of, carried_of}
+use Rattle.message.specs.declared.fields.Message.{Message}
+use Rattle.message.specs.declared.fields.Message.TheVariants.{Plain, Ptp}
+use Rattle.message.specs.Read.{read_of, carried_of}
 
 -- how many decimal digits a number has, of k at most and one at least
 abbrev pub places : ℕ → ℕ → ℕ
@@ -72,8 +74,8 @@ carried_words n = carried_word ++ decimal n ++ newline
 -- "one line and a newline: `refused` and the number, or Type, pad, S, PTPType, sequence and the carried packet's size in
 -- decimal"; "For types 1 and 5 the fields s, kind and seq show `-`."
 abbrev pub line_by : ℕ → Answer Message → List ℕ
-line_by size (value (plain h)) = header_words h ++ none_word ++ carried_words size
-line_by size (value (ptp h t)) = header_words h ++ sub_tlv_words t ++ carried_words size
+line_by size (value (Plain h)) = header_words h ++ none_word ++ carried_words size
+line_by size (value (Ptp h t)) = header_words h ++ sub_tlv_words t ++ carried_words size
 line_by size (refused n) = refused_word ++ decimal n ++ newline
 
 abbrev pub line_of : List ℕ → List ℕ

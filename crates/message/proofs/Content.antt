@@ -7,29 +7,31 @@ use mathlib.Core.List.{List}
 use native.Mathlib.Omega.{arith}
 use borrow.Author.Tests.{eq-eqb, ne_eqb, eqb-false, ltb-false}
 use lib.Dec.{ltb, eqb}
-use lib.ListN.{length, length-drop}
-use Rattle.refusal.specs.Answer.{Answer, value, refused, refuse, and_then, refusal_in}
-use Rattle.refusal.proofs.Answers.{passes, refused_by, then_passed}
+use lib.ListN.{length}
+use Rattle.refusal.specs.Answer.{Answer, value, refuse, and_then, refusal_in}
+use Rattle.refusal.proofs.Answers.{passes, then_passed}
 use Rattle.message.specs.declared.fields.Header.{Header}
 use Rattle.message.specs.declared.fields.SubTlv.{SubTlv}
-use Rattle.message.specs.Read.{Message, plain, ptp, is_rtm, version, header, length_field, message_value, is_type, is_ptp, header_of, is_sub_tlv, sub_tlv, sub_tlv_of, message_of, read_of, content_of}
+use Rattle.message.specs.declared.fields.Message.{Message}
+use Rattle.message.specs.declared.fields.Message.TheVariants.{Plain, Ptp}
+use Rattle.message.specs.Read.{is_rtm, version, header, length_field, message_value, is_type, is_ptp, header_of, is_sub_tlv, sub_tlv, sub_tlv_of, message_of, read_of, content_of}
 use Rattle.message.proofs.Sound.{header_sound}
 use Rattle.message.proofs.Accepted.{known_types, ptp_types, plain_types}
 
 -- ---- the Value, by its Type
 
 -- types 2 to 4: the sub-TLV decides
-pub ptp-value : (h : Header) (v : List ℕ) → is_ptp h.message_type ≡ true → message_of h v ≡ and_then (sub_tlv_of v) (λ t. value (ptp h t))
+pub ptp-value : (h : Header) (v : List ℕ) → is_ptp h.message_type ≡ true → message_of h v ≡ and_then (sub_tlv_of v) (λ t. value (Ptp h t))
 ptp-value h v p =
     let t = h.message_type in
     let r = ptp_types t p in
     simp (ne_eqb t 1 (λ e. omega arith), ne_eqb t 5 (λ e. omega arith))
 
 -- types 1 and 5: 7 for type 1 with a Value
-pub plain_value : (h : Header) (v : List ℕ) → is_type h.message_type ≡ true → is_ptp h.message_type ≡ false → message_of h v ≡ refuse 7 (eqb h.message_type 1 && ltb 0 (length v)) (value (plain h))
+pub plain_value : (h : Header) (v : List ℕ) → is_type h.message_type ≡ true → is_ptp h.message_type ≡ false → message_of h v ≡ refuse 7 (eqb h.message_type 1 && ltb 0 (length v)) (value (Plain h))
 plain_value h v k p = by_type (eqb h.message_type 1) refl
   where
-    by_type : (b : Bool) → eqb h.message_type 1 ≡ b → message_of h v ≡ refuse 7 (eqb h.message_type 1 && ltb 0 (length v)) (value (plain h))
+    by_type : (b : Bool) → eqb h.message_type 1 ≡ b → message_of h v ≡ refuse 7 (eqb h.message_type 1 && ltb 0 (length v)) (value (Plain h))
     by_type true e = simp e
     by_type false e =
         let t = h.message_type in
@@ -61,19 +63,15 @@ header_passed s e =
 abbrev behind : List ℕ → Answer Header → Answer Message
 behind s a = and_then a (λ h. message_of h (message_value s))
 
--- the header's refusal is the message's
-pub header_refused : (s : List ℕ) (n : ℕ) → refusal_in (header_of s) ≡ n → (n ≡ 0 → ⊥) → read_of s ≡ refused n
-header_refused s n e h = ap (behind s) (refused_by (header_of s) n e h)
-
 -- and where it has none, the Type says what is left
-pub ptp_behind : (s : List ℕ) → refusal_in (header_of s) ≡ 0 → is_ptp (header s).message_type ≡ true → read_of s ≡ and_then (sub_tlv_of (message_value s)) (λ t. value (ptp (header s) t))
+pub ptp_behind : (s : List ℕ) → refusal_in (header_of s) ≡ 0 → is_ptp (header s).message_type ≡ true → read_of s ≡ and_then (sub_tlv_of (message_value s)) (λ t. value (Ptp (header s) t))
 ptp_behind s e p = ap (behind s) (header_passed s e) ∙ ptp-value (header s) (message_value s) p
 
 pub plain_behind :
     (s : List ℕ)
     → refusal_in (header_of s) ≡ 0
     → is_ptp (header s).message_type ≡ false
-    → read_of s ≡ refuse 7 (eqb (header s).message_type 1 && ltb 0 (length (message_value s))) (value (plain (header s)))
+    → read_of s ≡ refuse 7 (eqb (header s).message_type 1 && ltb 0 (length (message_value s))) (value (Plain (header s)))
 plain_behind s e p =
     let q = header_passed s e in
     ap (behind s) q ∙ plain_value (header s) (message_value s) (header_sound s (header s) q).0.known p
@@ -99,28 +97,28 @@ pub header_readable : (s : List ℕ) → refusal_in (read_of s) ≡ 0 → refusa
 header_readable s e = then_passed (header_of s) (λ h. message_of h (message_value s)) e
 
 sub_tlv_readable : (s : List ℕ) → refusal_in (read_of s) ≡ 0 → is_ptp (header s).message_type ≡ true → refusal_in (sub_tlv_of (message_value s)) ≡ 0
-sub_tlv_readable s e p = then_passed (sub_tlv_of (message_value s)) (λ t. value (ptp (header s) t)) (ap refusal_in (sym (ptp_behind s (header_readable s e) p)) ∙ e)
+sub_tlv_readable s e p = then_passed (sub_tlv_of (message_value s)) (λ t. value (Ptp (header s) t)) (ap refusal_in (sym (ptp_behind s (header_readable s e) p)) ∙ e)
 
 -- it says its header and, with types 2 to 4, its sub-TLV
 pub readable : (s : List ℕ) → refusal_in (read_of s) ≡ 0 → read_of s ≡ value (content_of s)
 readable s e = by_type (is_ptp (header s).message_type) refl
   where
-    by_test : (b : Bool) → refusal_in (refuse 7 b (value (plain (header s)))) ≡ 0 → refuse 7 b (value (plain (header s))) ≡ value (plain (header s))
+    by_test : (b : Bool) → refusal_in (refuse 7 b (value (Plain (header s)))) ≡ 0 → refuse 7 b (value (Plain (header s))) ≡ value (Plain (header s))
     by_test true q = absurd (omega arith)
     by_test false q = refl
 
-    by_type : (b : Bool) → is_ptp (header s).message_type ≡ b → read_of s ≡ value (cond b (ptp (header s) (sub_tlv (message_value s))) (plain (header s)))
+    by_type : (b : Bool) → is_ptp (header s).message_type ≡ b → read_of s ≡ value (cond b (Ptp (header s) (sub_tlv (message_value s))) (Plain (header s)))
     by_type true p =
         ptp_behind s (header_readable s e) p
-        ∙ ap (λ (a : Answer SubTlv). and_then a (λ t. value (ptp (header s) t))) (sub_tlv_passed (message_value s) (sub_tlv_readable s e p))
+        ∙ ap (λ (a : Answer SubTlv). and_then a (λ t. value (Ptp (header s) t))) (sub_tlv_passed (message_value s) (sub_tlv_readable s e p))
     by_type false p =
         let q = plain_behind s (header_readable s e) p in
         q ∙ by_test (eqb (header s).message_type 1 && ltb 0 (length (message_value s))) (ap refusal_in (sym q) ∙ e)
 
-pub content_ptp : (s : List ℕ) → is_ptp (header s).message_type ≡ true → content_of s ≡ ptp (header s) (sub_tlv (message_value s))
+pub content_ptp : (s : List ℕ) → is_ptp (header s).message_type ≡ true → content_of s ≡ Ptp (header s) (sub_tlv (message_value s))
 content_ptp s p = rw p
 
-pub content_plain : (s : List ℕ) → is_ptp (header s).message_type ≡ false → content_of s ≡ plain (header s)
+pub content_plain : (s : List ℕ) → is_ptp (header s).message_type ≡ false → content_of s ≡ Plain (header s)
 content_plain s p = rw p
 
 -- and with types 2 to 4 the sub-TLV's 20 octets are there

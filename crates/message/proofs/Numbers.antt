@@ -9,7 +9,8 @@ use lib.ListN.{length}
 use Rattle.refusal.specs.Answer.{value, refuse, and_then}
 use Rattle.refusal.proofs.Answers.{Numbered, numbered_then, its_number}
 use Rattle.message.specs.declared.fields.Header.{Header}
-use Rattle.message.specs.Read.{plain, ptp, is_rtm, version, header, length_field, message_value, is_type, header_of, is_sub_tlv, sub_tlv, sub_tlv_of, message_of, read_of}
+use Rattle.message.specs.declared.fields.Message.TheVariants.{Plain, Ptp}
+use Rattle.message.specs.Read.{is_rtm, version, header, length_field, message_value, is_type, header_of, is_sub_tlv, sub_tlv, sub_tlv_of, message_of, read_of}
 use Rattle.message.specs.Numbers.{ReadNumbers}
 
 abbrev Reading : ℕ → Type 0
@@ -42,11 +43,11 @@ value_number h v = by_type (eqb h.message_type 1) (eqb h.message_type 5) (ltb 0 
   where
     by_type :
         (a b c : Bool)
-        → Numbered Reading (cond a (refuse 7 c (value (plain h))) (cond b (value (plain h)) (and_then (sub_tlv_of v) (λ t. value (ptp h t)))))
+        → Numbered Reading (cond a (refuse 7 c (value (Plain h))) (cond b (value (Plain h)) (and_then (sub_tlv_of v) (λ t. value (Ptp h t)))))
     by_type true b true = (omega arith, omega arith)
     by_type true b false = tt
     by_type false true c = tt
-    by_type false false c = numbered_then Reading (sub_tlv_of v) (λ t. value (ptp h t)) (sub_tlv_number v) (λ t. tt)
+    by_type false false c = numbered_then Reading (sub_tlv_of v) (λ t. value (Ptp h t)) (sub_tlv_number v) (λ t. tt)
 
 pub read_numbers : ReadNumbers
 read_numbers s n e =

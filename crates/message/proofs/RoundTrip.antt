@@ -18,7 +18,9 @@ use Rattle.refusal.specs.Answer.{Answer, value, refuse, and_then}
 use Rattle.message.specs.declared.fields.Header.{Header}
 use Rattle.message.specs.declared.fields.SubTlv.{SubTlv}
 use Rattle.message.specs.declared.fields.Fields.{Fields}
-use Rattle.message.specs.Read.{Message, plain, ptp, is_type, is_ptp, is_sub_tlv_length, sub_tlv, header, header_of, sub_tlv_of, message_of, read_of, carried_by, carried_of}
+use Rattle.message.specs.declared.fields.Message.{Message}
+use Rattle.message.specs.declared.fields.Message.TheVariants.{Plain, Ptp}
+use Rattle.message.specs.Read.{is_type, is_ptp, is_sub_tlv_length, sub_tlv, header, header_of, sub_tlv_of, message_of, read_of, carried_by, carried_of}
 use Rattle.message.specs.Write.{g_ach_header, header_octets, sub_tlv_header, flag_octets, sub_tlv_octets, ptp_octets, plain_octets, message_octets, output_by, write_of}
 use Rattle.message.specs.RoundTrip.{Sized, reported, RoundTrip}
 use Rattle.message.proofs.Sound.{header_taken, sub_tlv_taken}
@@ -84,7 +86,7 @@ module _ (t : SubTlv) (v : List ℕ) (stated : is_sub_tlv_length t.length ≡ tr
 
 -- whole messages
 module _ (f : Fields) (v : List ℕ) (room n : ℕ) (w : Sized f) (a : Accepted f.header.message_type f.sub_tlv (length v) room n) where
-  ptp_read : is_ptp f.header.message_type ≡ true → read_of (ptp_octets f v) ≡ value (ptp f.header f.sub_tlv)
+  ptp_read : is_ptp f.header.message_type ≡ true → read_of (ptp_octets f v) ≡ value (Ptp f.header f.sub_tlv)
   ptp_read p =
       let h = f.header in
       let t = f.sub_tlv in
@@ -97,15 +99,15 @@ module _ (f : Fields) (v : List ℕ) (room n : ℕ) (w : Sized f) (a : Accepted 
       ap (λ (k : ℕ). read_of (header_octets h k ++ (sub_tlv_octets t ++ v))) size
       ∙ ap (λ (x : Answer Header). and_then x (λ y. message_of y (sub_tlv_octets t ++ v))) e
       ∙ ptp-value h (sub_tlv_octets t ++ v) p
-      ∙ ap (λ (x : Answer SubTlv). and_then x (λ y. value (ptp h y))) g
+      ∙ ap (λ (x : Answer SubTlv). and_then x (λ y. value (Ptp h y))) g
 
-  plain_read : is_ptp f.header.message_type ≡ false → read_of (plain_octets f.header v) ≡ value (plain f.header)
+  plain_read : is_ptp f.header.message_type ≡ false → read_of (plain_octets f.header v) ≡ value (Plain f.header)
   plain_read p =
       let h = f.header in
       let z = plain_size a p in
       ap (λ (x : Answer Header). and_then x (λ y. message_of y v)) (header_read h v w.pad a.known (omega arith))
       ∙ plain_value h v a.known p
-      ∙ ap (λ (b : Bool). refuse 7 b (value (plain h))) a.empty
+      ∙ ap (λ (b : Bool). refuse 7 b (value (Plain h))) a.empty
 
 -- the octets written are the message, and what stands behind its fields is the packet
 pub round_trip : RoundTrip

@@ -13,7 +13,8 @@ use Rattle.refusal.specs.Answer.{Answer, value, refused, refuse, and_then}
 use Rattle.refusal.proofs.Answers.{not_both, same_value, passes}
 use Rattle.message.specs.declared.fields.Header.{Header}
 use Rattle.message.specs.declared.fields.SubTlv.{SubTlv}
-use Rattle.message.specs.Read.{plain, ptp, is_rtm, version, length_field, message_value, is_type, is_sub_tlv_length, is_sub_tlv, sub_tlv, header, header_of, sub_tlv_of, message_of, read_of}
+use Rattle.message.specs.declared.fields.Message.TheVariants.{Plain, Ptp}
+use Rattle.message.specs.Read.{is_rtm, version, length_field, message_value, is_type, is_sub_tlv_length, is_sub_tlv, sub_tlv, header, header_of, sub_tlv_of, message_of, read_of}
 
 -- a message whose header has nothing to refuse
 pub record SoundHeader (s : List ℕ) : Type 0 where
@@ -60,16 +61,16 @@ pub record SoundPtp (s : List ℕ) : Type 0 where
   pub long : 36 ≤ length s
   pub is : is_sub_tlv (message_value s) ≡ true
 
-pub ptp_sound : (s : List ℕ) (h : Header) (t : SubTlv) → read_of s ≡ value (ptp h t) → SoundPtp s × (header s ≡ h) × (sub_tlv (message_value s) ≡ t)
+pub ptp_sound : (s : List ℕ) (h : Header) (t : SubTlv) → read_of s ≡ value (Ptp h t) → SoundPtp s × (header s ≡ h) × (sub_tlv (message_value s) ≡ t)
 ptp_sound s h t e = by_header (header_of s) refl e
   where
     Claim : Type 0
     Claim = SoundPtp s × (header s ≡ h) × (sub_tlv (message_value s) ≡ t)
 
-    differ : {g : Header} → value (plain g) ≡ value (ptp h t) → ⊥
+    differ : {g : Header} → value (Plain g) ≡ value (Ptp h t) → ⊥
     differ q = let z : ◌≡◌ {A = ℕ} 0 1 = cc in omega arith
 
-    by_sub_tlv : (g : Header) → header_of s ≡ value g → (g.message_type ≡ 1 → ⊥) → (g.message_type ≡ 5 → ⊥) → (a : Answer SubTlv) → sub_tlv_of (message_value s) ≡ a → and_then a (λ x. value (ptp g x)) ≡ value (ptp h t) → Claim
+    by_sub_tlv : (g : Header) → header_of s ≡ value g → (g.message_type ≡ 1 → ⊥) → (g.message_type ≡ 5 → ⊥) → (a : Answer SubTlv) → sub_tlv_of (message_value s) ≡ a → and_then a (λ x. value (Ptp g x)) ≡ value (Ptp h t) → Claim
     by_sub_tlv g p one five (refused n) q r = absurd (not_both r)
     by_sub_tlv g p one five (value x) q r =
         let v = message_value s in
@@ -89,24 +90,24 @@ ptp_sound s h t e = by_header (header_of s) refl e
           same_value p8.1 ∙ second r,
         )
       where
-        first : value (ptp g x) ≡ value (ptp h t) → g ≡ h
+        first : value (Ptp g x) ≡ value (Ptp h t) → g ≡ h
         first z = cc
 
-        second : value (ptp g x) ≡ value (ptp h t) → x ≡ t
+        second : value (Ptp g x) ≡ value (Ptp h t) → x ≡ t
         second z = cc
 
-    by_five : (g : Header) → header_of s ≡ value g → (g.message_type ≡ 1 → ⊥) → (b : Bool) → eqb g.message_type 5 ≡ b → cond b (value (plain g)) (and_then (sub_tlv_of (message_value s)) (λ x. value (ptp g x))) ≡ value (ptp h t) → Claim
+    by_five : (g : Header) → header_of s ≡ value g → (g.message_type ≡ 1 → ⊥) → (b : Bool) → eqb g.message_type 5 ≡ b → cond b (value (Plain g)) (and_then (sub_tlv_of (message_value s)) (λ x. value (Ptp g x))) ≡ value (Ptp h t) → Claim
     by_five g p one true q r = absurd (differ r)
     by_five g p one false q r = by_sub_tlv g p one (eqb-false g.message_type 5 q) (sub_tlv_of (message_value s)) refl r
 
     by_one :
         (g : Header) → header_of s ≡ value g → (b : Bool) → eqb g.message_type 1 ≡ b
-        → cond b (refuse 7 (ltb 0 (length (message_value s))) (value (plain g))) (cond (eqb g.message_type 5) (value (plain g)) (and_then (sub_tlv_of (message_value s)) (λ x. value (ptp g x)))) ≡ value (ptp h t)
+        → cond b (refuse 7 (ltb 0 (length (message_value s))) (value (Plain g))) (cond (eqb g.message_type 5) (value (Plain g)) (and_then (sub_tlv_of (message_value s)) (λ x. value (Ptp g x)))) ≡ value (Ptp h t)
         → Claim
-    by_one g p true q r = absurd (differ (passes 7 (ltb 0 (length (message_value s))) (value (plain g)) (ptp h t) r).1)
+    by_one g p true q r = absurd (differ (passes 7 (ltb 0 (length (message_value s))) (value (Plain g)) (Ptp h t) r).1)
     by_one g p false q r = by_five g p (eqb-false g.message_type 1 q) (eqb g.message_type 5) refl r
 
-    by_header : (a : Answer Header) → header_of s ≡ a → and_then a (λ g. message_of g (message_value s)) ≡ value (ptp h t) → Claim
+    by_header : (a : Answer Header) → header_of s ≡ a → and_then a (λ g. message_of g (message_value s)) ≡ value (Ptp h t) → Claim
     by_header (refused n) q r = absurd (not_both r)
     by_header (value g) q r = by_one g q (eqb g.message_type 1) refl r
 
@@ -119,7 +120,7 @@ header_taken s k =
 pub sub_tlv_taken : (v : List ℕ) → 20 ≤ length v → is_sub_tlv v ≡ true → sub_tlv_of v ≡ value (sub_tlv v)
 sub_tlv_taken v long is = simp (le-ltb (length v) 20 long, is)
 
-pub ptp_taken : (s : List ℕ) → SoundPtp s → read_of s ≡ value (ptp (header s) (sub_tlv (message_value s)))
+pub ptp_taken : (s : List ℕ) → SoundPtp s → read_of s ≡ value (Ptp (header s) (sub_tlv (message_value s)))
 ptp_taken s k =
     let t = (header s).message_type in
     let v = message_value s in

@@ -4,11 +4,13 @@ use Rattle.octets.specs.Octets.{number, signed_number}
 use Rattle.refusal.specs.Answer.{Answer, value, refused, refuse, and_then}
 use Rattle.message.specs.declared.fields.Header.{Header}
 use Rattle.message.specs.declared.fields.SubTlv.{SubTlv}
+use Rattle.message.specs.declared.fields.Message.{Message}
+use Rattle.message.specs.declared.fields.Message.TheVariants.{Plain, Ptp}
 
--- what a message says: types 1 and 5 report no sub-TLV
-pub data Message : Type 0 where
-  plain : Header → Message
-  ptp : Header → SubTlv → Message
+-- types 1 and 5 report no sub-TLV
+abbrev pub header_in : Message → Header
+header_in (Plain h) = h
+header_in (Ptp h t) = h
 
 -- Octets 0, 2, 3: high half 1, 00 0F. Octet 1: "ignored when read"
 abbrev pub is_rtm : List ℕ → Bool
@@ -81,22 +83,22 @@ sub_tlv_of v =
 -- the Value v behind a sound header: 7 for "type 1 with a Value"; "Type 5 carries any number of octets, also none."
 abbrev pub message_of : Header → List ℕ → Answer Message
 message_of h v =
-    cond (eqb h.message_type 1) (refuse 7 (ltb 0 (length v)) (value (plain h)))
-    (cond (eqb h.message_type 5) (value (plain h))
-    (and_then (sub_tlv_of v) (λ t. value (ptp h t))))
+    cond (eqb h.message_type 1) (refuse 7 (ltb 0 (length v)) (value (Plain h)))
+    (cond (eqb h.message_type 5) (value (Plain h))
+    (and_then (sub_tlv_of v) (λ t. value (Ptp h t))))
 
 abbrev pub read_of : List ℕ → Answer Message
 read_of s = and_then (header_of s) (λ h. message_of h (message_value s))
 
 -- what a message says that has nothing to refuse
 abbrev pub content_of : List ℕ → Message
-content_of s = cond (is_ptp (header s).message_type) (ptp (header s) (sub_tlv (message_value s))) (plain (header s))
+content_of s = cond (is_ptp (header s).message_type) (Ptp (header s) (sub_tlv (message_value s))) (Plain (header s))
 
 -- "the carried packet, perhaps empty, starts at octet 36", whichever length the sub-TLV states (W-202: "The octets are the same.");
 -- "for type 5 the whole Value" (that of type 1 is empty). A refused message has none before its end
 abbrev pub packet_at : ℕ → Answer Message → ℕ
-packet_at end (value (plain h)) = 16
-packet_at end (value (ptp h t)) = 36
+packet_at end (value (Plain h)) = 16
+packet_at end (value (Ptp h t)) = 36
 packet_at end (refused n) = end
 
 -- the octets from there on, and behind the end stand none: "an empty one on refusal"

@@ -4,7 +4,9 @@ use Rattle.std.specs.Int.{w64}
 use Rattle.std.proofs.Common.{SFits}
 use Rattle.refusal.specs.Answer.{value}
 use Rattle.message.specs.declared.fields.Fields.{Fields}
-use Rattle.message.specs.Read.{Message, plain, ptp, is_ptp, read_of, carried_of}
+use Rattle.message.specs.declared.fields.Message.{Message}
+use Rattle.message.specs.declared.fields.Message.TheVariants.{Plain, Ptp}
+use Rattle.message.specs.Read.{is_ptp, read_of, carried_of}
 use Rattle.message.specs.Write.{write_of}
 
 -- the fields are numbers of their types, as they are in every value that the code is handed
@@ -16,7 +18,7 @@ pub record Sized (f : Fields) : Type 0 where
 
 -- what reading reports of the fields: "for types 1 and 5 .. none of the four"
 abbrev pub reported : Fields → Message
-reported f = cond (is_ptp f.header.message_type) (ptp f.header f.sub_tlv) (plain f.header)
+reported f = cond (is_ptp f.header.message_type) (Ptp f.header f.sub_tlv) (Plain f.header)
 
 -- the n octets written, read again: the same fields and the same carried octets
 abbrev pub RoundTrip : Type 0

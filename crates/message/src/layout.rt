@@ -1,6 +1,6 @@
 // The layout of a message, in the order of RFC 8169's figures: the first octet of each field.
 
-// Octets 0 to 3, the G-ACh header: 0001, Version 0, Reserved 0, channel type 000F.
+/// Octets 0 to 3, the G-ACh header: 0001, Version 0, Reserved 0, channel type 000F.
 pub const G_ACH_HEADER: [u8; 4] = *b"\x10\x00\x00\x0F";
 
 pub const CHANNEL_TYPE: usize = 2;
@@ -22,10 +22,10 @@ pub const PTP_SUB_TLV: u16 = 1;
 
 pub const SUB_TLV_LENGTH: usize = 2;
 
-// The length that the sub-TLV states: as RFC 8169 gives it, and as neighbours do that count its
-// Value alone.
+/// The length that the sub-TLV states, as RFC 8169 gives it.
 pub const PTP_SUB_TLV_LENGTH: u16 = 20;
 
+/// The same of neighbours that count its Value alone.
 pub const PTP_SUB_TLV_VALUE_LENGTH: u16 = 16;
 
 pub const FLAGS: usize = 4;
@@ -40,8 +40,8 @@ pub const SEQUENCE_ID: usize = 18;
 
 pub const SUB_TLV_SIZE: usize = 20;
 
-// The carried packet of types 2 to 4, counted from the message's first octet.
+/// The carried packet of types 2 to 4, counted from the message's first octet.
 pub const CARRIED: usize = VALUE + SUB_TLV_SIZE;
 
-// The largest message.
+/// The largest message.
 pub const LARGEST: usize = 2048;

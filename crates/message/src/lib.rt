@@ -7,5 +7,5 @@ mod fields;
 pub mod layout;
 pub mod types;
 
-pub use fields::{Fields, Header, SubTlv, is_ptp, is_sub_tlv_length};
+pub use fields::{Fields, Header, Message, SubTlv, is_ptp, is_sub_tlv_length};
 pub use layout::G_ACH_HEADER;

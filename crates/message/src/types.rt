@@ -20,5 +20,5 @@ pub const FOLLOW_UP: u8 = 8;
 
 pub const DELAY_RESP: u8 = 9;
 
-// The largest PTPType: it has four bits.
+/// The largest PTPType: it has four bits.
 pub const LAST_PTP_TYPE: u8 = 15;

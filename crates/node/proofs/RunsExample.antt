@@ -8,13 +8,15 @@ use lib.IntN.{pos}
 use lib.ListN.{set, replicate}
 use Rattle.octets.proofs.Low.{low-Octets}
 use Rattle.refusal.specs.Answer.{value}
-use Rattle.residence.specs.declared.Residence.TheVariants.{InvalidStamp}
+use Rattle.std.specs.Prelude.{Err}
+use Rattle.residence.specs.declared.ResidenceError.TheVariants.{InvalidStamp}
 use Rattle.records.specs.Slots.{same, holds, zeros}
 use Rattle.records.specs.Node.{Event, tick, call, switchover, told, replied, taken_over}
 use Rattle.image.specs.Image.{sound, differ}
 use Rattle.words.specs.Words.{decoded, slots_of, number_of, key_of, packed_of, put_slot, with_number}
 use Rattle.words.specs.Runs.{SameRun, run_words, final_words}
-use Rattle.rules.specs.Rules.{Call, two_step, waiting, added, rules}
+use Rattle.rules.specs.declared.Handled.TheVariants.{Waiting as waiting, Added as added}
+use Rattle.rules.specs.Rules.{Call, two_step, rules}
 use Rattle.rules.specs.Service.{InOctets}
 use Rattle.rules.proofs.Samples.{numbered, octets_of, stayed, handed_in, answers, each, Low}
 use Rattle.node.proofs.Runs.{words_run}
@@ -27,7 +29,7 @@ abbrev message : ℕ → List ℕ
 message k = octets_of (numbered 258) true k (pos 0)
 
 abbrev events : List (Event Call)
-events = call (handed_in two_step (message 0) (stayed 1)) ∷ tick ∷ switchover ∷ call (handed_in two_step (message 8) InvalidStamp) ∷ []
+events = call (handed_in two_step (message 0) (stayed 1)) ∷ tick ∷ switchover ∷ call (handed_in two_step (message 8) (Err InvalidStamp)) ∷ []
 
 in_octets : InOctets events
 in_octets k c = each Low events (low-Octets (message 0) refl, (tt, (tt, (low-Octets (message 8) refl, tt)))) k (call c)

@@ -1,6 +1,6 @@
 -- The calls that the two functions make, in the terms of the rules.
 use Rattle.std.specs.Prelude.{ℕ, List}
-use Rattle.residence.specs.declared.Residence.{Residence}
+use Rattle.residence.specs.Residence.{Residence}
 use Rattle.records.specs.Node.{table_answer}
 use Rattle.words.specs.Words.{slots_of, number_of, words_after}
 use Rattle.rules.specs.Rules.{Call, Kind, one_step, two_step, kind_of, request_by, call_by}

@@ -1,54 +1,35 @@
-// What a node call answers.
+// What a node call answers, and the residences that it takes.
 ghost use Rattle.std.specs.Prelude.{◌≡◌};
+ghost use Rattle.refusal.specs.Refusal.{answer_of};
 ghost use Rattle.residence.specs.Residence.{accepted_of};
-ghost use Rattle.node.specs.Answers.{units_answer};
 
+use refusal::Refusal;
 use residence::Residence;
+use rules::Handled;
 use table::Table;
 
-#[derive(Clone, Copy)]
-pub enum Answer {
-    Updated,
-    Passed,
-    Created,
-    Waiting,
-    Added,
-    Refused(u8),
-}
-
-// The answer of a two-step call, and the table handed back.
+/// The answer of a two-step call, and the table, which document 01 has handed back on refusal too.
 #[derive(Clone, Copy)]
 pub struct Done {
     pub table: Table,
-    pub answer: Answer,
+    pub answer: Result<Handled, Refusal>,
 }
 
-// The answer of a two-step call, and the residence of the record that it collected; 0 where it
-// collected none.
+/// The answer of a two-step call, and the residence of the record that it collected; 0 where it
+/// collected none, as the definitions of the report have it: the answer says which.
 #[derive(Clone, Copy)]
 pub struct Told {
-    pub answer: Answer,
+    pub answer: Result<Handled, Refusal>,
     pub collected: u64,
 }
 
-// The units of a residence that a node takes, or the number of the refusal.
-#[derive(Clone, Copy)]
-pub enum Accepted {
-    Units(u64),
-    Refused(u8),
-}
-
-pub(crate) fn accept(residence: Residence) -> Accepted
-    ensures { units_answer result ≡ accepted_of residence }
+/// The units of a residence that a node takes.
+pub(crate) fn accept(residence: Residence) -> Result<u64, Refusal>
+    ensures { answer_of result ≡ accepted_of residence }
 {
-    match residence {
-        Residence::Units(units) => {
-            if residence::LIMIT <= units {
-                return Accepted::Refused(refusal::TOO_LONG_RESIDENCE);
-            }
-            Accepted::Units(units)
-        }
-        Residence::InvalidStamp => Accepted::Refused(refusal::INVALID_STAMP),
-        Residence::TooLong => Accepted::Refused(refusal::TOO_LONG_RESIDENCE),
+    let units = residence?;
+    if residence::LIMIT <= units {
+        return Err(Refusal::TooLongResidence);
     }
+    Ok(units)
 }

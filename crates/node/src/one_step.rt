@@ -8,45 +8,37 @@ ghost use Rattle.node.specs.Answers.{replied, done_alone};
 ghost use Rattle.node.specs.Calls.{one_step_call};
 
 use crate::answer;
-use crate::answer::{Accepted, Answer};
 use message::{is_ptp, types};
+use refusal::Refusal;
 use residence::Residence;
+use rules::Handled;
 
 // Types 2 to 4 with a PTPType above 3.
 fn passes(message: &[u8]) -> bool
     ensures { result ≡ (is_ptp (header message.now).message_type && ltb 3 (sub_tlv (message_value message.now)).ptp_type) }
 {
-    if !is_ptp(reader::message_type(message)) {
-        return false;
-    }
-    types::PDELAY_RESP < reader::ptp_type(reader::value(message))
+    is_ptp(reader::message_type(message))
+        && reader::ptp_type(reader::value(message)) > types::PDELAY_RESP
 }
 
 // Adds the residence: refusals 9 and 10.
-fn update_pad(message: &mut [u8], residence: Residence) -> Answer
+fn update_pad(message: &mut [u8], residence: Residence) -> Result<Handled, Refusal>
     ensures { (o : List ℕ) → replied result message.new o ≡ update (one_step_call message.old o residence) (accepted_of residence) }
 {
-    match answer::accept(residence) {
-        Accepted::Units(units) => {
-            handling::add_to_pad(message, units);
-            Answer::Updated
-        }
-        Accepted::Refused(n) => Answer::Refused(n),
-    }
+    let units = answer::accept(residence)?;
+    handling::add_to_pad(message, units);
+    Ok(Handled::Updated)
 }
 
-// A message at a one-step node: updated, or passed with its residence not looked at; refusals 1 to
-// 8 of reading, then 9 and 10. A refusal leaves the message as it came. The call looks at no output
-// and no table, and changes none.
-pub fn handle_one_step(message: &mut [u8], residence: Residence) -> Answer
+/// A message at a one-step node: updated, or passed with its residence not looked at; refusals 1 to
+/// 8 of reading, then 9 and 10. A refusal leaves the message as it came. The call looks at no output
+/// and no table, and changes none.
+pub fn handle_one_step(message: &mut [u8], residence: Residence) -> Result<Handled, Refusal>
     ensures { (t : Slots) (n : ℕ) (o : List ℕ) → done_alone result message.new o t n ≡ call_of t n (one_step_call message.old o residence) }
 {
-    let n = reader::check(message);
-    if n != 0 {
-        return Answer::Refused(n);
-    }
+    reader::check(message)?;
     if passes(message) {
-        return Answer::Passed;
+        return Ok(Handled::Passed);
     }
     update_pad(message, residence)
 }

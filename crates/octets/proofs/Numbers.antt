@@ -4,7 +4,7 @@
 use Prim.Native.Nat.{ℕ, zero, suc, ◌+◌, ◌*◌, ◌/◌, ◌%◌, ◌^◌, ◌<◌, ◌≤◌}
 use mathlib.Core.Path.{◌≡◌, refl, sym, ap, ◌∙◌}
 use mathlib.Core.List.{List, [], ◌∷◌, ◌++◌, append_assoc}
-use native.Mathlib.Nat.{pow-suc, add_assoc, add-zero}
+use native.Mathlib.Nat.{pow-suc, add_assoc}
 use native.Mathlib.Omega.{arith}
 use lib.ListN.{length, get_or, take, drop, length-append, length-drop}
 use lib.Seq.{get_or_at, get_or-take, get_or-drop, take-suc}
@@ -28,10 +28,6 @@ number-octets (suc w) x i p q e h =
     let high : number w l i ≡ x / 256 = ap (λ (m : List ℕ). number w m i) front ∙ number-octets w (x / 256) i p (b ∷ q) e small in
     let low : get_or l (i + w) 0 ≡ b = ap (λ (m : List ℕ). get_or m (i + w) 0) front ∙ get_or_at (p ++ o) b q 0 (i + w) long in
     omega arith
-
--- the number in one octet is that octet
-pub number_one : (s : List ℕ) (i : ℕ) → number 1 s i ≡ get_or s i 0
-number_one s i = let e : 0 + get_or s (i + 0) 0 ≡ get_or s (i + 0) 0 = omega arith in e ∙ ap (λ (k : ℕ). get_or s k 0) (add-zero i)
 
 -- a number of the part from n on
 pub number-drop : (w n i : ℕ) (s : List ℕ) → number w (drop n s) i ≡ number w s (n + i)

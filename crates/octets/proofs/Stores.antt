@@ -6,19 +6,12 @@ use mathlib.Core.List.{List, ◌++◌, append-nil, append_assoc}
 use native.Mathlib.Omega.{arith}
 use borrow.Author.Tests.{le-leb}
 use lib.ListN.{length, take, drop, drop_of_length-le, length-append, length-drop}
-use lib.Seq.{take_all, take-length, take_at, drop_at, drop-append-add, drop-drop}
+use lib.Seq.{take_all, take_at, drop_at, drop-append-add, drop-drop}
 use Rattle.octets.specs.Octets.{put}
 
 -- the part from n on, as the code makes it: it ends at the length
 pub rest : (s : List ℕ) (n : ℕ) → take (length s - n) (drop n s) ≡ drop n s
 rest s n = take_all (length s - n) (drop n s) (simp length-drop (omega arith))
-
--- the part from n on that was lent, and came back with vs at its start
-pub pasted : (s t vs : List ℕ) (n : ℕ) → t ≡ take (length vs) vs ++ drop (length vs) (take (length s - n) (drop n s))
-    → take n s ++ (t ++ drop (length s - n) (drop n s)) ≡ take n s ++ vs ++ drop (n + length vs) s
-pasted s t vs n e =
-    let z = drop_of_length-le (drop n s) {i = length s - n} (simp length-drop (omega arith)) in
-    rw (z, append-nil, e, rest s n, take-length, drop-drop (length vs) n s) (sym (append_assoc (take n s) vs (drop (n + length vs) s)))
 
 -- one field more, vs, behind the fields p: l becomes m
 pub next : (m l p o ws vs : List ℕ) (n : ℕ) → m ≡ put l n ws → ws ≡ vs → l ≡ p ++ drop n o → length p ≡ n → n + length vs ≤ length o

@@ -1,89 +1,71 @@
--- The sums after the first hops of a list: how they go on, where they end, and that none overflows.
+-- The plan that is left to make from the sums so far: it starts as the plan of all hops, a hop more changes nothing in it, and it ends
+-- with the sums. And no sum overflows.
 -- Assumes nothing.
-use Prim.Native.Nat.{ℕ, zero, suc, ◌+◌, ◌*◌, ◌≤◌, ◌<◌}
-use mathlib.Core.Path.{◌≡◌, refl, sym, subst}
-use mathlib.Core.Bool.{Bool, true, false, cond, not}
-use mathlib.Core.List.{List, [], ◌∷◌, foldl}
-use native.Mathlib.Nat.{not-suc-le-zero, le_of_suc-le-suc}
-use native.Mathlib.Numerals.{add-one}
+use Prim.Native.Nat.{ℕ, ◌+◌, ◌≤◌}
+use mathlib.Core.Path.{◌≡◌, refl, sym, ap, ◌∙◌}
+use mathlib.Core.Bool.{Bool, true, false, cond, not, ◌||◌}
+use mathlib.Core.List.{List, [], ◌∷◌}
 use native.Mathlib.Omega.{arith}
-use borrow.Author.Tests.{ltb-false, leb-false}
-use lib.Dec.{ltb, leb, eqb}
-use lib.ListN.{length, get_or, take, length-take}
+use borrow.Author.Tests.{leb-false}
+use lib.Dec.{leb, eqb}
+use Rattle.refusal.specs.Answer.{Answer, value, refuse}
+use Rattle.refusal.proofs.Answers.{not_both, same_value}
 use Rattle.residence.specs.Residence.{limit}
 use Rattle.hops.specs.declared.Hop.{Hop}
-use Rattle.hops.specs.Plan.{is_mode}
+use Rattle.hops.specs.declared.Start.{Start}
+use Rattle.hops.specs.declared.End.{End}
+use Rattle.hops.specs.Plan.{is_mode, residence_in, residences_in, any_in, checked}
 use Rattle.planner.specs.declared.sums.Sums.{Sums}
-use Rattle.planner.specs.Sums.{Small, refused, counted, opened_of, walked_of, step_of}
+use Rattle.planner.specs.Sums.{counted, step_of, end_by}
 
--- a fold over the first elements of a list
-module _ {A B : Type 0} (f : B → A → B) where
-  fold_next : (s : B) (xs : List A) (i : ℕ) (d : A) → i < length xs → foldl f s (take (suc i) xs) ≡ f (foldl f s (take i xs)) (get_or xs i d)
-  fold_next s [] i d l = absurd (not-suc-le-zero l)
-  fold_next s (x ∷ xs) zero d l = refl
-  fold_next s (x ∷ xs) (suc i) d l = fold_next (f s x) xs i d (le_of_suc-le-suc l)
+or_false : (b : Bool) → b || false ≡ b
+or_false true = refl
+or_false false = refl
 
-  pub fold_all : (s : B) (xs : List A) → foldl f s (take (length xs) xs) ≡ foldl f s xs
-  fold_all s [] = refl
-  fold_all s (x ∷ xs) = fold_all (f s x) xs
+or_assoc : (a b c : Bool) → a || (b || c) ≡ (a || b) || c
+or_assoc true b c = refl
+or_assoc false b c = refl
 
--- what stands past the end of a list
-abbrev pub no_hop : Hop
-no_hop = record { mode = 0; residence = 0 }
+abbrev pub ending : Start → Sums → List Hop → Answer End
+ending start s hs = checked hs (value (end_by (s.one_step + residences_in 1 hs) (s.two_step + residences_in 2 hs) (s.creates || any_in 2 hs) start))
 
-abbrev pub sums_at : List Hop → ℕ → Sums
-sums_at hs i = foldl step_of (opened_of (length hs)) (take i hs)
+pub last_ending : (start : Start) (s : Sums) → ending start s [] ≡ value (end_by s.one_step s.two_step s.creates start)
+last_ending start s =
+    let p : s.one_step + 0 ≡ s.one_step = omega arith in
+    let q : s.two_step + 0 ≡ s.two_step = omega arith in
+    λ i. value (end_by (p i) (q i) (or_false s.creates i) start)
 
-pub sums_next : (hs : List Hop) (i : ℕ) → i < length hs → sums_at hs (i + 1) ≡ step_of (sums_at hs i) (get_or hs i no_hop)
-sums_next hs i l = rw (add-one i) (fold_next step_of (opened_of (length hs)) hs i no_hop l)
+module _ (start : Start) (s : Sums) (h : Hop) (hs : List Hop) where
+  abbrev rest : Answer End
+  rest = checked hs (value (end_by (s.one_step + residences_in 1 (h ∷ hs)) (s.two_step + residences_in 2 (h ∷ hs)) (s.creates || any_in 2 (h ∷ hs)) start))
 
--- a refusal stays
-pub stays_refused : (n : ℕ) → eqb n 0 ≡ false → (hs : List Hop) → foldl step_of (refused n) hs ≡ refused n
-stays_refused n e [] = refl
-stays_refused n e (h ∷ hs) = rw e (stays_refused n e hs)
+  pub next_ending : (t : Sums) → value t ≡ step_of s h → ending start s (h ∷ hs) ≡ ending start t hs
+  next_ending t e = go (not (is_mode h.mode)) (leb limit h.residence) e
+    where
+      go : (p q : Bool) → value t ≡ refuse 29 p (refuse 10 q (value (counted s h))) → refuse 29 p (refuse 10 q rest) ≡ ending start t hs
+      go true q e = absurd (not_both (sym e))
+      go false true e = absurd (not_both (sym e))
+      go false false e =
+          let p : s.one_step + (residence_in 1 h + residences_in 1 hs) ≡ s.one_step + residence_in 1 h + residences_in 1 hs = omega arith in
+          let q : s.two_step + (residence_in 2 h + residences_in 2 hs) ≡ s.two_step + residence_in 2 h + residences_in 2 hs = omega arith in
+          (λ i. checked hs (value (end_by (p i) (q i) (or_assoc s.creates (eqb h.mode 2) (any_in 2 hs) i) start)))
+          ∙ ap (λ (x : Sums). ending start x hs) (sym (same_value e))
 
 -- a hop adds less than the limit to either sum
 part : (b : Bool) (u : ℕ) → cond b u 0 ≤ u
 part true u = omega arith
 part false u = omega arith
 
-grows : (s : Sums) (h : Hop) → ((step_of s h).one_step ≤ s.one_step + limit) × ((step_of s h).two_step ≤ s.two_step + limit)
-grows s h = go (not (eqb s.refusal 0)) (not (is_mode h.mode)) (leb limit h.residence) refl
+pub grows : (s : Sums) (h : Hop) (t : Sums) → value t ≡ step_of s h → (t.one_step ≤ s.one_step + limit) × (t.two_step ≤ s.two_step + limit)
+grows s h t e = go (not (is_mode h.mode)) (leb limit h.residence) refl e
   where
     go :
-        (a b d : Bool) → leb limit h.residence ≡ d
-        → ((cond a s (cond b (refused 29) (cond d (refused 10) (counted s h)))).one_step ≤ s.one_step + limit)
-        × ((cond a s (cond b (refused 29) (cond d (refused 10) (counted s h)))).two_step ≤ s.two_step + limit)
-    go true b d e = (omega arith, omega arith)
-    go false true d e = (omega arith, omega arith)
-    go false false true e = (omega arith, omega arith)
-    go false false false e =
-        let l = leb-false limit h.residence e in
-        (omega (arith, l, part (eqb h.mode 1) h.residence), omega (arith, l, part (eqb h.mode 2) h.residence))
-
-bounded :
-    (hs : List Hop) (s : Sums)
-    → ((foldl step_of s hs).one_step ≤ s.one_step + length hs * limit) × ((foldl step_of s hs).two_step ≤ s.two_step + length hs * limit)
-bounded [] s = (omega arith, omega arith)
-bounded (h ∷ hs) s =
-    let g = grows s h in
-    let b = bounded hs (step_of s h) in
-    (omega (arith, g.0, b.0), omega (arith, g.1, b.1))
-
--- and there are at most 255 of them
-pub sums_small : (hs : List Hop) (i : ℕ) → Small (sums_at hs i)
-sums_small hs i = go (ltb 255 (length hs)) refl
-  where
-    go : (b : Bool) → ltb 255 (length hs) ≡ b → Small (foldl step_of (cond b (refused 28) (refused 0)) (take i hs))
-    go true e = subst Small (sym (stays_refused 28 refl (take i hs))) (omega arith, omega arith)
-    go false e =
-        let b = bounded (take i hs) (refused 0) in
-        let l = ltb-false 255 (length hs) e in
-        (omega (arith, b.0, length-take i hs, l), omega (arith, b.1, length-take i hs, l))
-
-pub walked_most : (n : ℕ) → walked_of n ≤ n
-walked_most n = go (ltb 255 n)
-  where
-    go : (b : Bool) → cond b 0 n ≤ n
-    go true = omega arith
-    go false = omega arith
+        (p q : Bool) → leb limit h.residence ≡ q → value t ≡ refuse 29 p (refuse 10 q (value (counted s h)))
+        → (t.one_step ≤ s.one_step + limit) × (t.two_step ≤ s.two_step + limit)
+    go true q f e = absurd (not_both (sym e))
+    go false true f e = absurd (not_both (sym e))
+    go false false f e =
+        let l = leb-false limit h.residence f in
+        let one : t.one_step ≡ s.one_step + residence_in 1 h = ap (λ (x : Sums). x.one_step) (same_value e) in
+        let two : t.two_step ≡ s.two_step + residence_in 2 h = ap (λ (x : Sums). x.two_step) (same_value e) in
+        (omega (arith, l, one, part (eqb h.mode 1) h.residence), omega (arith, l, two, part (eqb h.mode 2) h.residence))

@@ -2,7 +2,7 @@
 -- Assumes nothing.
 use Prim.Native.Nat.{ℕ, zero, suc, ◌+◌, ◌-◌, ◌*◌, ◌<◌, ◌≤◌}
 use mathlib.Core.Path.{◌≡◌, refl, sym, ap, ◌∙◌}
-use mathlib.Core.List.{List, ◌∷◌, ◌++◌, append-nil}
+use mathlib.Core.List.{List, ◌∷◌, ◌++◌}
 use native.Mathlib.Numerals.{add-one}
 use native.Mathlib.Omega.{arith}
 use lib.ListN.{length, take, set, length-set}
@@ -22,11 +22,6 @@ module _ (s : List ℕ) (n : ℕ) where
   abbrev pub Read : List Hop → ℕ → Type 0
   Read hs i = (i ≤ n) × (n ≤ 255) × (length hs ≡ 255) × (take i hs ++ left i ≡ hops_from n s 19)
 
-  pub read_first : (hs : List Hop) → n ≤ 255 → length hs ≡ 255 → Read hs 0
-  read_first hs l e =
-      let all : n - 0 ≡ n = omega arith in
-      (omega arith, l, e, ap (λ (k : ℕ). hops_from k s 19) all)
-
   module _ (hs : List Hop) (i : ℕ) (f : Read hs i) where
     pub read_on : (h : Hop) → i < n → h ≡ hop_from s (19 + i * 9) → Read (set hs i h) (i + 1)
     read_on h l e =
@@ -44,9 +39,3 @@ module _ (s : List ℕ) (n : ℕ) where
               ∙ ap (λ (l : List Hop). take i hs ++ l) (sym next)
               ∙ f.3,
         )
-
-    pub read_done : n ≤ i → take n hs ≡ hops_from n s 19
-    read_done l =
-        let same : i ≡ n = omega (arith, f.0) in
-        let none : n - i ≡ 0 = omega arith in
-        ap (λ (k : ℕ). take k hs) (sym same) ∙ sym (append-nil (take i hs)) ∙ (rw none at f.3)

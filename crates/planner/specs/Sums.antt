@@ -1,6 +1,6 @@
--- The parts of the plan, in the code's order: the sums opened, made hop by hop, and closed.
-use Rattle.std.specs.Prelude.{ℕ, ◌+◌, ◌<◌, ◌^◌, Bool, false, cond, not, ◌||◌, List, ltb, leb, eqb, take}
-use Rattle.refusal.specs.Answer.{Answer, value, refused as refused_answer, refuse}
+-- The parts of the plan, in the code's order: the sums of no hops, made hop by hop, and closed.
+use Rattle.std.specs.Prelude.{ℕ, ◌+◌, ◌<◌, ◌^◌, Bool, not, ◌||◌, List, ltb, leb, eqb, take}
+use Rattle.refusal.specs.Answer.{Answer, value, refuse}
 use Rattle.residence.specs.Residence.{limit}
 use Rattle.scratch_pad.specs.Sum.{raised}
 use Rattle.hops.specs.declared.Hop.{Hop}
@@ -13,18 +13,8 @@ use Rattle.planner.specs.declared.sums.Sums.{Sums}
 abbrev pub Small : Sums → Type 0
 Small s = (s.one_step < 2 ^ 63) × (s.two_step < 2 ^ 63)
 
-abbrev pub refused : ℕ → Sums
-refused n = record { refusal = n; one_step = 0; two_step = 0; creates = false }
-
 abbrev pub going : ℕ → ℕ → Bool → Sums
-going a b c = record { refusal = 0; one_step = a; two_step = b; creates = c }
-
-abbrev pub opened_of : ℕ → Sums
-opened_of n = cond (ltb 255 n) (refused 28) (going 0 0 false)
-
--- too many hops are refused with no look at any
-abbrev pub walked_of : ℕ → ℕ
-walked_of n = cond (ltb 255 n) 0 n
+going a b c = record { one_step = a; two_step = b; creates = c }
 
 abbrev pub hop_of : ℕ → ℕ → Hop
 hop_of mode u = record { mode = mode; residence = u }
@@ -33,13 +23,9 @@ hop_of mode u = record { mode = mode; residence = u }
 abbrev pub counted : Sums → Hop → Sums
 counted s h = going (s.one_step + residence_in 1 h) (s.two_step + residence_in 2 h) (s.creates || eqb h.mode 2)
 
--- one hop more: the first refusal stays; 29, 10
-abbrev pub step_of : Sums → Hop → Sums
-step_of s h =
-    cond (not (eqb s.refusal 0)) s
-    (cond (not (is_mode h.mode)) (refused 29)
-    (cond (leb limit h.residence) (refused 10)
-    (counted s h)))
+-- one hop more: 29, 10
+abbrev pub step_of : Sums → Hop → Answer Sums
+step_of s h = refuse 29 (not (is_mode h.mode)) (refuse 10 (leb limit h.residence) (value (counted s h)))
 
 abbrev pub end_by : ℕ → ℕ → Bool → Start → End
 end_by one two creates s =
@@ -49,10 +35,6 @@ end_by one two creates s =
       two_step = s.two_step || creates;
       exists = s.two_step || creates;
     }
-
-abbrev pub closed_of : Sums → Start → Answer End
-closed_of s start =
-    cond (not (eqb s.refusal 0)) (refused_answer s.refusal) (value (end_by s.one_step s.two_step s.creates start))
 
 -- the first hops of an array: "28 for over 255 hops"
 abbrev pub plan_first : List Hop → ℕ → Start → Answer End

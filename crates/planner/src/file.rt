@@ -1,11 +1,12 @@
 // A path in octets, as the programs take it: S, the two pads, the number of hops, and the hops, each a
 // mode and a residence.
 ghost use Rattle.std.specs.Prelude.{◌≡◌, ◌≤◌, take};
-ghost use Rattle.hops.specs.Plan.{planned_answer};
+ghost use Rattle.refusal.specs.Refusal.{answer_of};
 ghost use Rattle.planner.specs.File.{start_in, count_in, is_path, hop_from, hops_from, plan_in};
 
 use crate::plan_array;
-use hops::{Hop, MOST, Planned, Start};
+use hops::{End, Hop, MOST, Start};
+use refusal::Refusal;
 
 const TWO_STEP: usize = 0;
 
@@ -38,14 +39,11 @@ fn count_in(path: &[u8]) -> usize
     octets::read16(path, COUNT) as usize
 }
 
-// Whether octets are laid out so: S is 0 or 1, and they end behind the last hop.
+/// Whether octets are laid out so: S is 0 or 1, and they end behind the last hop.
 pub fn is_path(path: &[u8]) -> bool
     ensures { result ≡ is_path path.now }
 {
-    if 1 < octets::read8(path, TWO_STEP) {
-        return false;
-    }
-    path.len() == HOPS + count_in(path) * HOP_SIZE
+    octets::read8(path, TWO_STEP) <= 1 && path.len() == HOPS + count_in(path) * HOP_SIZE
 }
 
 fn hop_from(path: &[u8], at: usize) -> Hop
@@ -67,21 +65,19 @@ fn hops_in(path: &[u8], count: usize) -> [Hop; MOST]
         mode: 0,
         residence: 0,
     }; MOST];
-    let mut i: usize = 0;
-    while i < count {
+    for i in 0..count {
         hops[i] = hop_from(path, HOPS + i * HOP_SIZE);
-        i += 1;
     }
     hops
 }
 
-// The plan of the path. An octet past the end counts as 0.
-pub fn plan_octets(path: &[u8]) -> Planned
-    ensures { planned_answer result ≡ plan_in path.now }
+/// The plan of the path. An octet past the end counts as 0.
+pub fn plan_octets(path: &[u8]) -> Result<End, Refusal>
+    ensures { answer_of result ≡ plan_in path.now }
 {
     let count = count_in(path);
     if MOST < count {
-        return Planned::Refused(refusal::TOO_MANY_HOPS);
+        return Err(Refusal::TooManyHops);
     }
     plan_array(hops_in(path, count), count, start_in(path))
 }

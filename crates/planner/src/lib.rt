@@ -7,42 +7,36 @@ mod file;
 mod sums;
 
 ghost use Rattle.std.specs.Prelude.{◌≡◌, ◌≤◌, take};
-ghost use Rattle.hops.specs.Plan.{plan_of, planned_answer};
+ghost use Rattle.refusal.specs.Refusal.{answer_of};
+ghost use Rattle.hops.specs.Plan.{plan_of};
 ghost use Rattle.planner.specs.Sums.{plan_first};
 
 pub use file::{is_path, plan_octets};
-use hops::{Hop, MOST, Planned, Start};
+use hops::{End, Hop, MOST, Start};
+use refusal::Refusal;
 
-// The plan of a path with these hops, in the Sync's order; or refusal 28, or 29 or 10 of the first bad
-// hop.
-pub fn plan(hops: &[Hop], start: Start) -> Planned
-    ensures { planned_answer result ≡ plan_of hops.now start }
+/// The plan of a path with these hops, in the Sync's order; or refusal 28, or 29 or 10 of the first bad
+/// hop.
+pub fn plan(hops: &[Hop], start: Start) -> Result<End, Refusal>
+    ensures { answer_of result ≡ plan_of hops.now start }
 {
-    let mut sums = sums::opened(hops.len());
-    let count = sums::walked(hops.len());
-    let mut i = 0;
-    while i < count {
-        let hop = hops[i];
-        sums = sums::step(sums, hop.mode, hop.residence);
-        i += 1;
+    if hops.len() > MOST {
+        return Err(Refusal::TooManyHops);
     }
-    sums::closed(sums, start)
+    let mut sums = sums::none();
+    for hop in hops {
+        sums = sums::step(sums, hop.mode, hop.residence)?;
+    }
+    Ok(sums::closed(sums, start))
 }
 
-// The plan of a path with the first `count` hops of an array.
-fn plan_first(hops: [Hop; MOST], count: usize, start: Start) -> Planned
-    requires { count ≤ 255 }
-    ensures { planned_answer result ≡ plan_of (take count hops) start }
-{
-    plan(&hops[..count], start)
-}
-
-// The same with any count: over 255 it is refusal 28.
-pub fn plan_array(hops: [Hop; MOST], count: usize, start: Start) -> Planned
-    ensures { planned_answer result ≡ plan_first hops count start }
+/// The plan of a path with the first `count` hops of an array; over 255 it is refusal 28. A path in
+/// octets has its count in front, and there is no heap for a list of so many hops.
+pub fn plan_array(hops: [Hop; MOST], count: usize, start: Start) -> Result<End, Refusal>
+    ensures { answer_of result ≡ plan_first hops count start }
 {
     if MOST < count {
-        return Planned::Refused(refusal::TOO_MANY_HOPS);
+        return Err(Refusal::TooManyHops);
     }
-    plan_first(hops, count, start)
+    plan(&hops[..count], start)
 }

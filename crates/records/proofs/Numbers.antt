@@ -1,7 +1,7 @@
 -- The number in the table: what leaves it as it came, that it is the number of the table's records after any calls, ticks and switchovers,
 -- and so does not depend on their order.
 -- Assumes nothing.
-use Prim.Native.Nat.{ℕ, zero, suc, ◌+◌, ◌-◌, ◌<◌, ◌≤◌}
+use Prim.Native.Nat.{ℕ, zero, suc, ◌+◌, ◌<◌, ◌≤◌}
 use mathlib.Core.Path.{◌≡◌, refl, sym, ap, ◌∙◌}
 use mathlib.Core.Bool.{Bool, true, false, cond, not, true≢false}
 use mathlib.Core.List.{List, [], ◌∷◌}
@@ -76,10 +76,6 @@ read_low n = go (leb n 16) refl
     go : (b : Bool) → leb n 16 ≡ b → cond b n 16 ≤ 16
     go true e = leb-true n 16 e
     go false e = omega arith
-
-pub fewer_some : (k n : ℕ) → (k ≡ 0 → ⊥) → fewer k n ≡ read_number n - k
-fewer_some zero n h = absurd (h refl)
-fewer_some (suc k) n h = refl
 
 pub number_aside : NumberAside
 number_aside = (λ a t m n. (refl, refl), λ t m n. (refl, refl))

@@ -9,17 +9,17 @@ pub mod number;
 ghost use Rattle.std.specs.Prelude.{◌≡◌};
 ghost use Rattle.records.specs.Slots.{kind_number, identity_of, same, zeros};
 
-// What a record is kept for: a Sync, whose residence goes on its Follow_Up, or a Delay_Req, whose
-// residence goes on its Delay_Resp (document 02, W-204).
-#[derive(Clone, Copy)]
+/// What a record is kept for: a Sync, whose residence goes on its Follow_Up, or a Delay_Req, whose
+/// residence goes on its Delay_Resp (document 02, W-204).
+#[derive(Clone, Copy, PartialEq, Eq)]
 pub enum RecordKind {
-    Sync,
-    Delay,
+    Sync = 0,
+    Delay = 1,
 }
 
-// The identity of a Sync or Follow_Up, a Delay_Req or Delay_Resp: its kind, its port identity, in
-// two numbers, and its sequence.
-#[derive(Clone, Copy)]
+/// The identity of a Sync or Follow_Up, a Delay_Req or Delay_Resp: its kind, its port identity, in
+/// two numbers, and its sequence.
+#[derive(Clone, Copy, PartialEq, Eq)]
 pub struct Identity {
     pub clock: u64,
     pub port: u16,
@@ -27,9 +27,9 @@ pub struct Identity {
     pub kind: RecordKind,
 }
 
-// A slot of the table. It is empty exactly when its wait is 0, whatever else it holds; otherwise
-// it holds a record: an identity, a residence (document 01's "stay") in pad units, and the number
-// of ticks after which it is gone.
+/// A slot of the table. It is empty exactly when its wait is 0, whatever else it holds; otherwise
+/// it holds a record: an identity, a residence (document 01's "stay") in pad units, and the number
+/// of ticks after which it is gone.
 #[derive(Clone, Copy)]
 pub struct Record {
     pub clock: u64,
@@ -41,53 +41,38 @@ pub struct Record {
 }
 
 impl RecordKind {
-    // 0 Sync, 1 Delay.
+    /// Its number: 0 Sync, 1 Delay.
     pub fn number(self) -> u8
         ensures { result ≡ kind_number self }
     {
-        match self {
-            RecordKind::Sync => 0,
-            RecordKind::Delay => 1,
-        }
+        self as u8
     }
 }
 
 impl Identity {
-    // The two are the same: kind, clock identity, port number and sequence.
+    /// The two are the same: kind, clock identity, port number and sequence.
     #[tactic(auto, unfolding(crate::specs::Slots::same))]
     pub fn equals(self, other: Identity) -> bool
         ensures { result ≡ same self other }
     {
-        let kind = self.kind;
-        let other_kind = other.kind;
-        if kind.number() != other_kind.number() {
-            return false;
-        }
-        if self.clock != other.clock {
-            return false;
-        }
-        if self.port != other.port {
-            return false;
-        }
-        self.sequence == other.sequence
+        self == other
     }
 }
 
 impl Record {
-    // What the slot holds for an identity, whether it is empty or not.
+    /// What the slot holds for an identity, whether it is empty or not.
     pub fn identity(self) -> Identity
         ensures { result ≡ identity_of self }
     {
-        let kind = self.kind;
         Identity {
             clock: self.clock,
             port: self.port,
             sequence: self.sequence,
-            kind,
+            kind: self.kind,
         }
     }
 
-    // What an operation that empties a slot leaves in it.
+    /// What an operation that empties a slot leaves in it.
     pub fn zeros() -> Record
         ensures { result ≡ zeros }
     {

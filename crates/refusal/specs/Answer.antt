@@ -19,3 +19,7 @@ and_then (refused n) next = refused n
 abbrev pub refusal_in : {A : Type 0} → Answer A → ℕ
 refusal_in (value a) = 0
 refusal_in (refused n) = n
+
+-- the answer of a test: the refusal alone
+abbrev pub checked : {A : Type 0} → Answer A → Answer Unit
+checked a = and_then a (λ _. value tt)

@@ -15,7 +15,9 @@ use Rattle.refusal.proofs.Answers.{Numbered, numbered_by}
 use Rattle.records.specs.Slots.{Slots, zeros}
 use Rattle.records.specs.Node.{table_answer, Event, tick, call, switchover, step, result, run}
 use Rattle.image.specs.Layout.{sum}
-use Rattle.rules.specs.Rules.{Mode, one_step, two_step, Call, Word, updated, passed, created, waiting, added, word_number, rules}
+use Rattle.rules.specs.declared.Handled.{Handled as Word}
+use Rattle.rules.specs.declared.Handled.TheVariants.{Updated as updated, Passed as passed, Created as created, Waiting as waiting, Added as added}
+use Rattle.rules.specs.Rules.{Mode, one_step, two_step, Call, word_number, rules}
 use Rattle.rules.specs.Numbers.{GivenAt}
 use Rattle.rules.proofs.Numbers.{numbers_given, eleven_withdrawn}
 use Rattle.capture.specs.Layout.{body_kind, bodies_in}

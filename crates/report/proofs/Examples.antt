@@ -10,14 +10,16 @@ use lib.IntN.{pos}
 use lib.ListN.{get_or, replicate}
 use Rattle.octets.specs.Octets.{octets}
 use Rattle.refusal.specs.Answer.{value, refused}
-use Rattle.residence.specs.declared.Residence.{Residence}
-use Rattle.residence.specs.declared.Residence.TheVariants.{Units, InvalidStamp}
+use Rattle.residence.specs.Residence.{Residence}
+use Rattle.std.specs.Prelude.{Ok, Err}
+use Rattle.residence.specs.declared.ResidenceError.TheVariants.{InvalidStamp}
 use Rattle.records.specs.Slots.{same, holds, zeros}
 use Rattle.records.specs.Node.{table_answer, Event, tick, call, switchover, step, run}
 use Rattle.image.specs.Image.{sound, differ}
 use Rattle.image.specs.Layout.{sum}
 use Rattle.rules.specs.Change.{with_two_step, follow_up_of}
-use Rattle.rules.specs.Rules.{Mode, one_step, two_step, Call, updated, waiting, created, added, as_it_came, add_to_pad, rules}
+use Rattle.rules.specs.declared.Handled.TheVariants.{Updated as updated, Created as created, Waiting as waiting, Added as added}
+use Rattle.rules.specs.Rules.{Mode, one_step, two_step, Call, as_it_came, add_to_pad, rules}
 use Rattle.rules.proofs.Samples.{numbered, octets_of, stayed, handed_in, after}
 use Rattle.capture.specs.Layout.{start_of, body_at, is_body}
 use Rattle.report.specs.declared.Range.TheVariants.{Absent, Between}
@@ -37,7 +39,7 @@ abbrev first : Call
 first = handed_in two_step (octets_of (numbered 258) true 0 (pos 0)) (stayed 1500)
 
 abbrev second : Call
-second = handed_in two_step (octets_of (numbered 258) true 8 (pos 0)) InvalidStamp
+second = handed_in two_step (octets_of (numbered 258) true 8 (pos 0)) (Err InvalidStamp)
 
 abbrev a_sync : Event Call
 a_sync = call first
@@ -63,8 +65,8 @@ events =
     ∷ a_follow_up
     ∷ a_follow_up
     ∷ call third
-    ∷ call (handed_in one_step (octets_of (numbered 258) true 8 (pos 0)) InvalidStamp)
-    ∷ call (clear one_step InvalidStamp)
+    ∷ call (handed_in one_step (octets_of (numbered 258) true 8 (pos 0)) (Err InvalidStamp))
+    ∷ call (clear one_step (Err InvalidStamp))
     ∷ []
 
 abbrev theirs : Report
@@ -146,7 +148,7 @@ none_span = least_and_greatest (tick ∷ [])
 -- ---- a stay of 0 is a stay, and a sum of 0 need not be that of none
 
 abbrev at_once : List (Event Call)
-at_once = call (clear one_step (Units 0)) ∷ []
+at_once = call (clear one_step (Ok 0)) ∷ []
 
 at_once_lem : (residences_of at_once ≡ 0 ∷ []) × ((report_of at_once).residences ≡ record { range = Between 0 0; sum = 0 })
 at_once_lem = (refl, refl)

@@ -10,7 +10,9 @@ use Rattle.residence.specs.Residence.{limit, accepted_of}
 use Rattle.records.specs.Slots.{Slots, zeros}
 use Rattle.records.specs.Node.{table_answer, Event, tick, call, switchover, step, result, run}
 use Rattle.image.specs.Layout.{sum}
-use Rattle.rules.specs.Rules.{Call, Word, updated, passed, created, waiting, added, rules}
+use Rattle.rules.specs.declared.Handled.{Handled as Word}
+use Rattle.rules.specs.declared.Handled.TheVariants.{Updated as updated, Passed as passed, Created as created, Waiting as waiting, Added as added}
+use Rattle.rules.specs.Rules.{Call, rules}
 use Rattle.rules.specs.Path.{units_of}
 use Rattle.rules.proofs.Below.{step-Below, answer_below, own_below}
 use Rattle.capture.specs.Layout.{count_in, bodies_in}

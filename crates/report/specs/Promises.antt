@@ -7,7 +7,9 @@ use Rattle.records.specs.Slots.{zeros}
 use Rattle.records.specs.Node.{Event, tick, call, switchover, Result, told, replied, taken_over, run}
 use Rattle.image.specs.Layout.{sum}
 use Rattle.rules.specs.Change.{follow_up_of}
-use Rattle.rules.specs.Rules.{Call, Word, updated, passed, created, waiting, added, word_number, Reply, as_it_came, add_to_pad, rules}
+use Rattle.rules.specs.declared.Handled.{Handled as Word}
+use Rattle.rules.specs.declared.Handled.TheVariants.{Updated as updated, Passed as passed, Created as created, Waiting as waiting, Added as added}
+use Rattle.rules.specs.Rules.{Call, word_number, Reply, as_it_came, add_to_pad, rules}
 use Rattle.report.specs.declared.Counts.{Counts}
 use Rattle.report.specs.declared.Range.{Range}
 use Rattle.report.specs.declared.Range.TheVariants.{Absent, Between}

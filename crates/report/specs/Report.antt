@@ -7,7 +7,9 @@ use Rattle.refusal.specs.Answer.{Answer, value, refused, and_then}
 use Rattle.residence.specs.Residence.{accepted_of}
 use Rattle.records.specs.Slots.{zeros}
 use Rattle.records.specs.Node.{Node, Event, Result, told, replied, taken_over, run}
-use Rattle.rules.specs.Rules.{Call, Word, updated, passed, created, waiting, added, word_number, rules}
+use Rattle.rules.specs.declared.Handled.{Handled as Word}
+use Rattle.rules.specs.declared.Handled.TheVariants.{Updated as updated, Passed as passed, Created as created, Waiting as waiting, Added as added}
+use Rattle.rules.specs.Rules.{Call, word_number, rules}
 use Rattle.rules.specs.Path.{units_of}
 use Rattle.report.specs.declared.Counts.{Counts}
 use Rattle.report.specs.declared.Range.{Range}

@@ -5,8 +5,8 @@
 ghost use Rattle.std.specs.Prelude.{◌≡◌};
 ghost use Rattle.report.specs.Report.{nothing_yet};
 
-// How many calls were answered with each word; `refused[n]` is how many were refused with number n
-// (no refusal has number 0).
+/// How many calls were answered with each word; `refused[n]` is how many were refused with number n
+/// (no refusal has number 0).
 #[derive(Clone, Copy)]
 pub struct Counts {
     pub updated: u16,
@@ -17,20 +17,22 @@ pub struct Counts {
     pub refused: [u16; 17],
 }
 
-// The least and the greatest residence, where there are any.
+/// The least and the greatest residence, where there are any. No Option: `Spans` and `LeastFirst` speak
+/// of its cases by name.
 #[derive(Clone, Copy)]
 pub enum Range {
     Absent,
     Between(u64, u64),
 }
 
-// The residences that were updated, created or added, in pad units.
+/// The residences that were updated, created or added, in pad units.
 #[derive(Clone, Copy)]
 pub struct Residences {
     pub range: Range,
     pub sum: u64,
 }
 
+/// The report on a capture.
 #[derive(Clone, Copy)]
 pub struct Report {
     pub counts: Counts,
@@ -38,7 +40,7 @@ pub struct Report {
 }
 
 impl Report {
-    // A report on no calls.
+    /// A report on no calls.
     pub fn new() -> Report
         ensures { result ≡ nothing_yet }
     {

@@ -1,2 +1,1 @@
-pub mod Calling
 pub mod Turns

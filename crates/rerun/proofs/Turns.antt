@@ -2,50 +2,61 @@
 -- Assumes nothing.
 use Prim.Native.Nat.{ℕ, suc, ◌+◌, ◌-◌, ◌<◌, ◌≤◌}
 use mathlib.Core.Path.{◌≡◌, refl, ap, ◌∙◌}
-use mathlib.Core.Bool.{true, false, and-eq-true_iff}
+use mathlib.Core.Bool.{Bool, true, false, ◌&&◌, ◌||◌, and-eq-true_iff}
 use mathlib.Core.List.{List, map}
+use borrow.Author.Tests.{leb-true}
 use native.Mathlib.Omega.{arith}
-use borrow.Author.Tests.{leb-true, eq-eqb, ne_eqb}
-use lib.Dec.{leb}
+use lib.Dec.{eqb, leb}
 use lib.ListN.{length, replicate}
-use Rattle.refusal.specs.Answer.{value, refused}
 use Rattle.records.specs.Slots.{Slots, zeros}
 use Rattle.records.specs.Node.{Event, tick, call, result, step, run}
 use Rattle.rules.specs.Rules.{one_step, two_step, Call, rules}
 use Rattle.words.specs.Words.{decoded, slots_of}
-use Rattle.capture.specs.Layout.{count_in, body_at, bodies_from, body_kind, is_body, are_bodies, is_capture}
+use Rattle.std.specs.Prelude.{cond, Some, None}
+use Rattle.capture.specs.declared.kinds.Kind.{Kind}
+use Rattle.capture.specs.declared.kinds.Kind.TheVariants.{OneStep, TwoStep, Tick}
+use Rattle.capture.specs.Kinds.{kind_of}
+use Rattle.capture.specs.Layout.{body_at, bodies_from, body_kind, is_body, are_bodies}
 use Rattle.report.specs.declared.Report.{Report}
 use Rattle.report.specs.Events.{call_in, event_in}
-use Rattle.report.specs.Report.{counting, with_result, report_from, nothing_yet, report_of, report_on}
+use Rattle.report.specs.Report.{counting, with_result, report_from, nothing_yet, report_of}
 use Rattle.report.specs.Room.{Room}
 use Rattle.report.proofs.Rooms.{room_first, room_on}
-use Rattle.rerun.specs.Answers.{replay_by}
 
 -- a table of zeros is empty
 pub zeros_empty : slots_of (replicate 64 0) ≡ replicate 16 zeros
 unfolding decoded slots_of
 zeros_empty = refl
 
--- what a body is, by its first octet
-module _ (b : List ℕ) (k : ℕ) (told : k ≡ body_kind b) where
-  pub is_tick : k ≡ 3 → tick ≡ event_in b
-  unfolding event_in
-  is_tick e = rw (← told, eq-eqb k 3 e) refl
+-- the event that a body of each kind is
+abbrev pub event_by : Kind → List ℕ → Event Call
+event_by Tick b = tick
+event_by OneStep b = call (call_in one_step b)
+event_by TwoStep b = call (call_in two_step b)
 
-  pub is_one_step : k ≡ 1 → call (call_in one_step b) ≡ event_in b
-  unfolding event_in
-  is_one_step e = rw (← told, ne_eqb k 3 (λ f. omega arith), eq-eqb k 1 e) refl
+pub kind_event : (b : List ℕ) (k : Kind) → kind_of b ≡ Some k → event_by k b ≡ event_in b
+unfolding event_in
+kind_event b k h = go (is_body b) (eqb (body_kind b) 3) (eqb (body_kind b) 1) h
+  where
+    go :
+        (t p q : Bool) → cond t (Some (cond p Tick (cond q OneStep TwoStep))) None ≡ Some k
+        → event_by k b ≡ cond p tick (call (call_in (cond q one_step two_step) b))
+    go true true q h = let e : k ≡ Tick = cc in ap (λ (x : Kind). event_by x b) e
+    go true false true h = let e : k ≡ OneStep = cc in ap (λ (x : Kind). event_by x b) e
+    go true false false h = let e : k ≡ TwoStep = cc in ap (λ (x : Kind). event_by x b) e
+    go false p q h = cc
 
-  pub is_two_step : (k ≡ 3 → ⊥) → (k ≡ 1 → ⊥) → call (call_in two_step b) ≡ event_in b
-  unfolding event_in
-  is_two_step d e = rw (← told, ne_eqb k 3 d, ne_eqb k 1 e) refl
-
-  -- one that is a body and no tick has both stamps
-  pub both_stamps : is_body b ≡ true → (k ≡ 3 → ⊥) → 17 ≤ length b
-  unfolding is_body
-  both_stamps h d =
-      leb-true 17 (length b)
-      ((and-eq-true_iff (leb 17 (length b)) _).0 (rw (← told, ne_eqb k 3 d) at h)).0
+-- a recorded call has both stamps
+pub both_stamps : (b : List ℕ) (k : Kind) → kind_of b ≡ Some k → (k ≡ Tick → ⊥) → 17 ≤ length b
+unfolding is_body
+both_stamps b k h d =
+    leb-true 17 (length b) (go (eqb (body_kind b) 3) (eqb (body_kind b) 1) (eqb (body_kind b) 2) (eqb (length b) 1) (leb 17 (length b)) h)
+  where
+    go : (p q r one long : Bool) → cond (cond p one (long && (q || r))) (Some (cond p Tick (cond q OneStep TwoStep))) None ≡ Some k → long ≡ true
+    go true q r true long h = absurd (d cc)
+    go true q r false long h = absurd cc
+    go false q r one true h = refl
+    go false q r one false h = absurd cc
 
 -- the report r and the slots t after k of n bodies
 abbrev rest_from : List ℕ → ℕ → ℕ → List (Event Call)
@@ -102,16 +113,3 @@ module _ (s : List ℕ) (n k : ℕ) (r : Report) (t : Slots) (g : Going s n r t 
   go_done h =
       let none : n - k ≡ 0 = omega arith in
       rw none at g.2
-
--- what is handed back
-pub no_capture : (s : List ℕ) (r : Report) → r ≡ nothing_yet → is_capture s ≡ false → record { answer = refused 26; report = r } ≡ replay_by (report_on s)
-no_capture s r e h = rw h (ap (λ (x : Report). record { answer = refused 26; report = x }) e)
-
-pub reported :
-    (s : List ℕ) (n : ℕ) (r : Report)
-    → is_capture s ≡ true
-    → n ≡ count_in s
-    → r ≡ report_of (map event_in (bodies_from s 0 n))
-    → record { answer = value 0; report = r } ≡ replay_by (report_on s)
-reported s n r h en er =
-    rw h (ap (λ (x : Report). record { answer = value 0; report = x }) (er ∙ ap (λ (m : ℕ). report_of (map event_in (bodies_from s 0 m))) en))

@@ -2,13 +2,14 @@
 -- are not looked at.
 use Rattle.std.specs.Prelude.{ℕ, List}
 use Rattle.refusal.specs.Answer.{Answer}
+use Rattle.refusal.specs.Refusal.{answer_of}
 use Rattle.records.specs.Slots.{Slots}
 use Rattle.records.specs.Node.{table_answer, call, step}
-use Rattle.rules.specs.Rules.{Call, Word, rules}
+use Rattle.rules.specs.declared.Handled.{Handled as Word}
+use Rattle.rules.specs.Rules.{Call, rules}
 use Rattle.rules.specs.Path.{units_of}
 use Rattle.words.specs.Words.{slots_of}
 use Rattle.node.specs.declared.answer.Told.{Told}
-use Rattle.node.specs.Answers.{word_answer}
 
 pub record Made : Type 0 where
   pub answer : Answer Word
@@ -26,4 +27,4 @@ made_of t c =
 
 -- by the code, with the words that it left
 abbrev pub made : Told → List ℕ → Made
-made r w = record { answer = word_answer r.answer; collected = r.collected; slots = slots_of w }
+made r w = record { answer = answer_of r.answer; collected = r.collected; slots = slots_of w }

@@ -4,7 +4,7 @@ ghost use Rattle.std.specs.Prelude.{◌≤◌, ◌≡◌, length};
 ghost use Rattle.residence.specs.Residence.{accepted_of};
 ghost use Rattle.records.specs.Slots.{Slots};
 ghost use Rattle.rules.specs.Path.{units_of};
-ghost use Rattle.node.specs.Answers.{word_answer};
+ghost use Rattle.refusal.specs.Refusal.{answer_of};
 ghost use Rattle.node.specs.Calls.{one_step_call, two_step_call};
 ghost use Rattle.words.specs.Words.{slots_of};
 ghost use Rattle.rtm.specs.Stamped.{stamped_residence};
@@ -12,15 +12,24 @@ ghost use Rattle.report.specs.Events.{stamp_at, stamps_in, message_in, lent_outp
 ghost use Rattle.rerun.specs.Calls.{made, made_of};
 
 use capture::layout;
-use node::{Answer, Told};
+use node::{Handled, Told};
+use refusal::Refusal;
 use residence::Residence;
 use stamp::{Stamps, ptp};
 
-// The largest message that a node reads; a larger one is refused whatever it holds.
-const LARGEST_MESSAGE: usize = message::layout::LARGEST;
+// The largest message that a node reads, and so the size of the copy that a call is lent; a larger
+// message is refused whatever it holds.
+pub(crate) const LARGEST_MESSAGE: usize = message::layout::LARGEST;
 
 // The size of the output that is lent to each call.
 const OUTPUT_SIZE: usize = 36;
+
+// A body that is a call, so that both stamps are there.
+#[derive(Clone, Copy)]
+pub(crate) struct Recorded<'a> {
+    pub body: &'a [u8],
+    ghost whole: { 17 ≤ length body.now },
+}
 
 fn stamp_at(stamps: &[u8], at: usize) -> ptp::Stamp
     requires { at ≤ 8 }
@@ -32,26 +41,23 @@ fn stamp_at(stamps: &[u8], at: usize) -> ptp::Stamp
     }
 }
 
-// The residence between the stamps of a recorded call. Of a part with a fixed size the compiler knows
-// how many octets it has.
-pub(crate) fn residence_in(body: &[u8]) -> Residence
-    requires { 17 ≤ length body.now }
-    ensures { result ≡ stamped_residence (stamps_in body.now) }
-{
-    let stamps = &body[layout::ENTRY..layout::MESSAGE];
-    let entry = stamp_at(stamps, 0);
-    let exit = stamp_at(stamps, layout::EXIT - layout::ENTRY);
-    stamp::residence_of(Stamps::Ptp(entry, exit))
-}
-
-// The message of a recorded call.
-pub(crate) fn message_in(body: &[u8]) -> &[u8]
-    ensures { result.now ≡ message_in body.now }
-{
-    if body.len() <= layout::MESSAGE {
-        return &body[..0];
+impl<'a> Recorded<'a> {
+    // The residence between its stamps. Of a part with a fixed size the compiler knows how many octets
+    // it has: read from the body they made a capture take a quarter longer.
+    pub(crate) fn residence(self) -> Residence
+        ensures { result ≡ stamped_residence (stamps_in self.entry.body.now) }
+    {
+        let stamps = &self.body[layout::ENTRY..layout::MESSAGE];
+        let entry = stamp_at(stamps, 0);
+        let exit = stamp_at(stamps, layout::EXIT - layout::ENTRY);
+        stamp::residence_of(Stamps::Ptp(entry, exit))
     }
-    &body[layout::MESSAGE..]
+
+    pub(crate) fn message(self) -> &'a [u8]
+        ensures { result.now ≡ message_in self.entry.body.now }
+    {
+        &self.body[layout::MESSAGE..]
+    }
 }
 
 // A residence in pad units; 0 where a node takes none.
@@ -59,48 +65,44 @@ pub(crate) fn units_of(residence: Residence) -> u64
     ensures { result ≡ units_of (accepted_of residence) }
 {
     match residence {
-        Residence::Units(units) => {
-            if residence::LIMIT <= units {
-                return 0;
-            }
-            units
-        }
-        Residence::InvalidStamp => 0,
-        Residence::TooLong => 0,
+        Ok(units) if units < residence::LIMIT => units,
+        _ => 0,
     }
 }
 
 // The answer of a one-step call, whatever the table.
-pub(crate) fn one_step(copy: &mut [u8], message: &[u8], residence: Residence) -> Answer
-    requires { 2048 ≤ length copy.old }
-    ensures { (t : Slots) → word_answer result ≡ (made_of t (one_step_call message.now lent_output residence)).answer }
+pub(crate) fn one_step(
+    copy: &mut [u8; LARGEST_MESSAGE],
+    message: &[u8],
+    residence: Residence,
+) -> Result<Handled, Refusal>
+    ensures { (t : Slots) → answer_of result ≡ (made_of t (one_step_call message.now lent_output residence)).answer }
 {
-    let size = message.len();
-    if LARGEST_MESSAGE < size {
-        return Answer::Refused(refusal::TOO_LONG);
+    if message.len() > LARGEST_MESSAGE {
+        return Err(Refusal::TooLong);
     }
-    octets::put(copy, 0, message);
-    node::handle_one_step(&mut copy[..size], residence)
+    let lent = &mut copy[..message.len()];
+    lent.copy_from_slice(message);
+    node::handle_one_step(lent, residence)
 }
 
 // The answer of a two-step call, what it collected, and the table after it.
 pub(crate) fn two_step(
     words: &mut [u64; 64],
-    copy: &mut [u8],
+    copy: &mut [u8; LARGEST_MESSAGE],
     message: &[u8],
     residence: Residence,
 ) -> Told
-    requires { 2048 ≤ length copy.old }
     ensures { made result words.new ≡ made_of (slots_of words.old) (two_step_call message.now lent_output residence) }
 {
-    let size = message.len();
-    if LARGEST_MESSAGE < size {
+    if message.len() > LARGEST_MESSAGE {
         return Told {
-            answer: Answer::Refused(refusal::TOO_LONG),
+            answer: Err(Refusal::TooLong),
             collected: 0,
         };
     }
     let mut output = [0u8; OUTPUT_SIZE];
-    octets::put(copy, 0, message);
-    node::tell_two_step(words, &mut copy[..size], &mut output, residence)
+    let lent = &mut copy[..message.len()];
+    lent.copy_from_slice(message);
+    node::tell_two_step(words, lent, &mut output, residence)
 }

@@ -5,4 +5,4 @@ mod calls;
 mod running;
 mod tally;
 
-pub use running::{Replayed, Replaying, replay};
+pub use running::replay;

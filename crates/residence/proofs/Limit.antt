@@ -10,9 +10,9 @@ use borrow.Author.Tests.{leb-false, lt-leb}
 use lib.Dec.{leb}
 use Rattle.refusal.specs.Answer.{Answer, value, refused, refuse, and_then}
 use Rattle.refusal.proofs.Answers.{not_both, same_value, passes, Numbered, its_number}
-use Rattle.residence.specs.declared.Residence.{Residence}
-use Rattle.residence.specs.declared.Residence.TheVariants.{Units, InvalidStamp, TooLong}
-use Rattle.residence.specs.Residence.{residence_answer, limit, accepted_of, Promise}
+use Rattle.std.specs.Prelude.{Ok, Err}
+use Rattle.residence.specs.declared.ResidenceError.TheVariants.{InvalidStamp, TooLong}
+use Rattle.residence.specs.Residence.{Residence, residence_answer, limit, accepted_of, Promise}
 
 pub below_limit : (r : Residence) (u : ℕ) → accepted_of r ≡ value u → u < limit
 below_limit r u e = go (residence_answer r) e
@@ -35,9 +35,9 @@ nine_or_ten r n e = its_number NineOrTen (accepted_of r) n (go r) e
     too_long false u = tt
 
     go : (r : Residence) → Numbered NineOrTen (accepted_of r)
-    go (Units u) = too_long (leb limit u) u
-    go InvalidStamp = inl refl
-    go TooLong = inr refl
+    go (Ok u) = too_long (leb limit u) u
+    go (Err InvalidStamp) = inl refl
+    go (Err TooLong) = inr refl
 
 pub promised : (r : Residence) → ((u : ℕ) → residence_answer r ≡ value u → u < limit) → Promise r
 promised r h = go (residence_answer r) h

@@ -1,14 +1,28 @@
 -- What a residence says, in document 01's numbers.
-use Rattle.std.specs.Prelude.{ℕ, ◌≡◌, leb}
+use Rattle.std.specs.Prelude.{ℕ, List, ◌≡◌, leb, Result, Ok, Err, codes}
 use Rattle.refusal.specs.Answer.{Answer, value, refused, refuse, and_then}
-use Rattle.residence.specs.declared.Residence.{Residence}
-use Rattle.residence.specs.declared.Residence.TheVariants.{Units, InvalidStamp, TooLong}
+use Rattle.refusal.specs.Refusal.{number_of}
+use Rattle.refusal.specs.declared.Refusal.{Refusal}
+use Rattle.residence.specs.declared.ResidenceError.{ResidenceError}
+use Rattle.residence.specs.declared.ResidenceError.TheVariants.{InvalidStamp, TooLong}
+
+abbrev pub Residence : Type 0
+Residence = Result ℕ ResidenceError
 
 -- the stay in pad units, or refusal 9 or 10
 abbrev pub residence_answer : Residence → Answer ℕ
-residence_answer (Units u) = value u
-residence_answer InvalidStamp = refused 9
-residence_answer TooLong = refused 10
+residence_answer (Ok u) = value u
+residence_answer (Err InvalidStamp) = refused 9
+residence_answer (Err TooLong) = refused 10
+
+-- why there is none, in words
+abbrev pub words_of : ResidenceError → List ℕ
+words_of InvalidStamp = codes "a stamp is no time"
+words_of TooLong = codes "the residence is too long"
+
+-- the refusal that stands for the error has its number
+abbrev pub RefusedAs : ResidenceError → Refusal → Type 0
+RefusedAs e r = residence_answer (Err e) ≡ refused (number_of r)
 
 -- a residence as a node takes it: units of 262,144,000,000,000 (4 seconds) or more come from no stamps, and are 10 too
 abbrev pub limit : ℕ

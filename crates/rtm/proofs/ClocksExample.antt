@@ -20,7 +20,8 @@ use Rattle.records.specs.Slots.{same, holds}
 use Rattle.records.specs.Node.{tick, call}
 use Rattle.records.specs.Number.{read_number, final_number}
 use Rattle.rules.specs.Change.{pad_of}
-use Rattle.rules.specs.Rules.{Mode, one_step, two_step, updated, created, waiting, added, call_of}
+use Rattle.rules.specs.declared.Handled.TheVariants.{Updated as updated, Created as created, Waiting as waiting, Added as added}
+use Rattle.rules.specs.Rules.{Mode, one_step, two_step, call_of}
 use Rattle.rules.specs.Path.{Unrefused, Apart, Every, of_sync, FirstWay, SecondWay, FollowUps, born}
 use Rattle.rules.proofs.Samples.{new, octets_of, spare, after, visit, unrefused, first_halves, other, apart}
 use Rattle.rules.proofs.PathExample.{mine, theirs, a_sync, a_follow_up}

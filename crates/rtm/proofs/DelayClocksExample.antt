@@ -12,7 +12,8 @@ use Rattle.stamp.specs.Rounding.{exact}
 use Rattle.records.specs.Slots.{same, holds}
 use Rattle.records.specs.Node.{tick, call}
 use Rattle.rules.specs.Change.{pad_of}
-use Rattle.rules.specs.Rules.{one_step, two_step, updated, passed, waiting, added}
+use Rattle.rules.specs.declared.Handled.TheVariants.{Updated as updated, Passed as passed, Waiting as waiting, Added as added}
+use Rattle.rules.specs.Rules.{one_step, two_step}
 use Rattle.rules.specs.Path.{Unrefused, Apart, Every, of_delay, FirstWay, SecondWay}
 use Rattle.rules.proofs.Samples.{new, spare, visit, unrefused, first_halves, apart}
 use Rattle.rules.proofs.DelayExample.{mine, request, response}

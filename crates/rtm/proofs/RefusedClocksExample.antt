@@ -14,7 +14,8 @@ use Rattle.stamp.specs.declared.stamps.Stamps.TheVariants.{Ptp}
 use Rattle.records.specs.Slots.{same, holds}
 use Rattle.records.specs.Node.{tick, call}
 use Rattle.rules.specs.Change.{pad_of}
-use Rattle.rules.specs.Rules.{sync, kind_of, two_step, updated, created, waiting, added}
+use Rattle.rules.specs.declared.Handled.TheVariants.{Updated as updated, Created as created, Waiting as waiting, Added as added}
+use Rattle.rules.specs.Rules.{sync, kind_of, two_step}
 use Rattle.rules.specs.Path.{Apart, Every, FirstWay, SecondWay, FollowUps, born}
 use Rattle.rules.specs.Credited.{some_created}
 use Rattle.rules.proofs.Samples.{new, spare, answers_of, said, refused_with, after, visit, refusing, apart}

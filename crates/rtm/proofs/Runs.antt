@@ -9,8 +9,9 @@ use native.Mathlib.Omega.{arith}
 use lib.IntN.{pos, ◌+ℤ◌}
 use lib.ListN.{get_elem?}
 use Rattle.refusal.specs.Answer.{Answer, value, refused}
-use Rattle.residence.specs.declared.Residence.{Residence}
-use Rattle.residence.specs.declared.Residence.TheVariants.{Units, InvalidStamp, TooLong}
+use Rattle.residence.specs.Residence.{Residence}
+use Rattle.std.specs.Prelude.{Ok, Err}
+use Rattle.residence.specs.declared.ResidenceError.TheVariants.{InvalidStamp, TooLong}
 use Rattle.residence.specs.Residence.{residence_answer, accepted_of}
 use Rattle.stamp.specs.declared.stamps.Stamps.{Stamps}
 use Rattle.stamp.specs.Stamps.{residence_of}
@@ -31,9 +32,9 @@ use Rattle.rtm.specs.Stamped.{StampedStop, as_stop, stamps_in, first_stamps, tot
 
 -- a residence is the one of its answer
 by_answer : (r : Residence) → r ≡ residence_by (residence_answer r)
-by_answer (Units u) = refl
-by_answer InvalidStamp = refl
-by_answer TooLong = refl
+by_answer (Ok u) = refl
+by_answer (Err InvalidStamp) = refl
+by_answer (Err TooLong) = refl
 
 pub same_residence : (r : Residence) (a : Answer ℕ) → residence_answer r ≡ a → r ≡ residence_by a
 same_residence r a e = by_answer r ∙ ap residence_by e

@@ -5,8 +5,9 @@ use mathlib.Core.List.{List, [], ◌∷◌, ◌++◌, map, Permᴰ}
 use Rattle.std.proofs.Math.Option.{Option, none, some}
 use Rattle.std.proofs.Math.ListN.{get_elem?}
 use Rattle.refusal.specs.Answer.{Answer, value, refused}
-use Rattle.residence.specs.declared.Residence.{Residence}
-use Rattle.residence.specs.declared.Residence.TheVariants.{Units, InvalidStamp, TooLong}
+use Rattle.residence.specs.Residence.{Residence}
+use Rattle.std.specs.Prelude.{Ok, Err}
+use Rattle.residence.specs.declared.ResidenceError.TheVariants.{InvalidStamp, TooLong}
 use Rattle.stamp.specs.declared.stamps.Stamps.{Stamps}
 use Rattle.stamp.specs.Stamps.{residence_of}
 use Rattle.scratch_pad.specs.Sum.{too_big}
@@ -16,14 +17,15 @@ use Rattle.records.specs.Node.{Node, Event, tick, call, switchover, run, final}
 use Rattle.records.specs.Order.{OrderFree}
 use Rattle.records.specs.Number.{final_number}
 use Rattle.rules.specs.Change.{pad_of}
-use Rattle.rules.specs.Rules.{Mode, Call, Reply, Word, sync, delay_req, delay_resp, kind_of, rules, call_of}
+use Rattle.rules.specs.declared.Handled.{Handled as Word}
+use Rattle.rules.specs.Rules.{Mode, Call, Reply, sync, delay_req, delay_resp, kind_of, rules, call_of}
 use Rattle.rules.specs.Path.{Stop, Unrefused, Apart, Every, FirstWay, SecondWay, FollowUps, units_of}
 use Rattle.rules.specs.Service.{NumberInService, NumberOrderFree}
 
 -- the residence whose answer is given: 9 an invalid stamp, 10 too long
 abbrev pub residence_by : Answer ℕ → Residence
-residence_by (value u) = Units u
-residence_by (refused n) = cond (eqb n 9) InvalidStamp TooLong
+residence_by (value u) = Ok u
+residence_by (refused n) = cond (eqb n 9) (Err InvalidStamp) (Err TooLong)
 
 -- the residence between two stamps, as it goes on to the node's rules
 abbrev pub stamped_residence : Stamps → Residence

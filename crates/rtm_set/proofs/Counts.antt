@@ -21,9 +21,6 @@ counted a = and_then a (λ es. value (length es))
 abbrev pub more : Answer ℕ → Answer ℕ
 more a = and_then a (λ m. value (m + 1))
 
-pub count_none : (s : List ℕ) → length s ≡ 0 → count_of s ≡ value 0
-count_none s e = rw e
-
 pub count_rest : (s : List ℕ) (n : ℕ) → Front s n → length s ≤ 1024 → count_of s ≡ more (count_of (drop n s))
 count_rest s n f short = ap counted (entries_rest s n f short) ∙ go (entries_of (drop n s))
   where

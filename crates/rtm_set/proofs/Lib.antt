@@ -4,3 +4,4 @@ pub mod PartExamples
 pub mod Places
 pub mod Rest
 pub mod Sound
+pub mod Octet

@@ -11,7 +11,8 @@ use lib.ListN.{length, get_or, take, drop, length-drop}
 use lib.Seq.{length-take-le, drop-drop}
 use Rattle.refusal.specs.Answer.{Answer, value, refused, refuse, and_then}
 use Rattle.refusal.proofs.Answers.{not_both, same_value}
-use Rattle.rtm_set.specs.Entries.{Part, front_size, is_entry, entries_within, entries_of, entry_of, part_by, octets_in, part_in, part_of, behind, PartHolds}
+use Rattle.rtm_set.specs.declared.part.Part.{Part}
+use Rattle.rtm_set.specs.Entries.{front_size, is_entry, entries_within, entries_of, entry_of, part_by, octets_in, part_in, part_of, behind, PartHolds}
 use Rattle.rtm_set.proofs.Rest.{Front, front, before, entries_rest}
 use Rattle.rtm_set.proofs.Places.{at, has_short, not_refused}
 
@@ -120,8 +121,13 @@ refused_alike x y k n (refused m) e = let z : m ≡ n = cc in ap refused z
 pub no_part : (s : List ℕ) (k n : ℕ) → entry_of s k ≡ refused n → part_of s k ≡ refused n
 no_part s k n = refused_alike (λ es. get_or es k []) (λ es. part_in es k) k n (entries_of s)
 
-pub no_entry : (s : List ℕ) (k n : ℕ) → part_of s k ≡ refused n → entry_of s k ≡ refused n
-no_entry s k n = refused_alike (λ es. part_in es k) (λ es. get_or es k []) k n (entries_of s)
+-- where a part is told of, there is an entry
+pub entry_there : (s : List ℕ) (k : ℕ) (p : Part) → part_of s k ≡ value p → value (part_by (entry_of s k)) ≡ entry_of s k
+entry_there s k p e = go (entry_of s k) refl
+  where
+    go : (a : Answer (List ℕ)) → entry_of s k ≡ a → value (part_by a) ≡ a
+    go (value x) q = refl
+    go (refused n) q = absurd (not_both (sym (no_part s k n q) ∙ e))
 
 -- the octets before a list add up; its front begins behind them; none before it change nothing
 pub behind-behind : (m n : ℕ) (a : Answer Part) → behind m (behind n a) ≡ behind (m + n) a
@@ -130,7 +136,3 @@ behind-behind m n (refused r) = refl
 
 pub behind_front : (m n : ℕ) → behind m (value (record { offset = 0; length = n })) ≡ value (record { offset = m; length = n })
 behind_front m n = let e : m + 0 ≡ m = omega arith in rw e
-
-pub behind_none : (a : Answer Part) → behind 0 a ≡ a
-behind_none (value p) = let e : 0 + p.offset ≡ p.offset = omega arith in rw e
-behind_none (refused r) = refl

@@ -1,37 +1,20 @@
 -- The entry at a place: the count tells whether there is one, and behind the front it is an entry of the rest.
 -- Assumes nothing.
-use Prim.Native.Nat.{ℕ, zero, suc, ◌-◌, ◌<◌, ◌≤◌}
+use Prim.Native.Nat.{ℕ, zero, suc, ◌-◌, ◌≤◌}
 use mathlib.Core.Path.{◌≡◌, refl, sym, ap, ◌∙◌}
-use mathlib.Core.Bool.{true}
 use mathlib.Core.List.{List, []}
 use native.Mathlib.Omega.{arith}
-use borrow.Author.Tests.{le-leb, lt-leb}
-use lib.Dec.{leb-zero, leb-suc-suc, leb}
+use lib.Dec.{leb-suc-suc, leb}
 use lib.ListN.{length, get_or, take, drop}
 use Rattle.refusal.specs.Answer.{Answer, value, refused, refuse, and_then}
 use Rattle.refusal.proofs.Answers.{not_both}
-use Rattle.rtm_set.specs.Entries.{is_entry, entries_of, entries_by, Sound, entry_of, part_by}
+use Rattle.rtm_set.specs.Entries.{entries_of, entries_by, Sound, entry_of, part_by}
 use Rattle.rtm_set.proofs.Rest.{Front, before, entries_rest}
-use Rattle.rtm_set.proofs.Counts.{counted}
-use Rattle.rtm_set.proofs.Sound.{short, entry_first}
+use Rattle.rtm_set.proofs.Sound.{short}
 
 -- the entry at a place of an answer's entries
 abbrev pub at : ℕ → Answer (List (List ℕ)) → Answer (List ℕ)
 at k a = and_then a (λ es. refuse 21 (leb (length es) k) (value (get_or es k [])))
-
--- by what is counted
-module _ (k n : ℕ) where
-  pub present : (a : Answer (List (List ℕ))) → counted a ≡ value n → k < n → value (part_by (at k a)) ≡ at k a
-  present (value es) e h = let z : length es ≡ n = cc in rw (lt-leb (length es) k (omega arith))
-  present (refused m) e h = absurd (not_both e)
-
-  pub absent : (a : Answer (List (List ℕ))) → counted a ≡ value n → n ≤ k → at k a ≡ refused 21
-  absent (value es) e h = let z : length es ≡ n = cc in rw (le-leb (length es) k (omega arith))
-  absent (refused m) e h = absurd (not_both e)
-
-  pub refused_too : (a : Answer (List (List ℕ))) → counted a ≡ refused n → at k a ≡ refused n
-  refused_too (value es) e = absurd (not_both (sym e))
-  refused_too (refused m) e = let z : m ≡ n = cc in ap refused z
 
 -- of a list that has an entry at the place
 module _ (s : List ℕ) (k : ℕ) (has : value (part_by (entry_of s k)) ≡ entry_of s k) where
@@ -47,9 +30,6 @@ module _ (s : List ℕ) (k : ℕ) (has : value (part_by (entry_of s k)) ≡ entr
 
   pub has_short : length s ≤ 1024
   has_short = short s sound
-
-  pub has_front : is_entry s ≡ true
-  has_front = entry_first s sound (λ z. not_refused 21 (rw (z, leb-zero k)))
 
   module _ (n : ℕ) (f : Front s n) where
     pub entry_later : (k ≡ 0 → ⊥) → entry_of s k ≡ entry_of (drop n s) (k - 1)

@@ -9,7 +9,9 @@ use borrow.Author.Tests.{eq-eqb, ne_eqb, le-ltb, eqb-true, eqb-false, leb-true, 
 use lib.Dec.{eqb, leb}
 use lib.ListN.{length, get_or, take, drop, length-drop}
 use Rattle.refusal.specs.Answer.{Answer, value, refused, refuse, and_then}
+use Rattle.std.specs.Prelude.{Some, None}
 use Rattle.rtm_set.specs.Entries.{front_size, is_entry, entries_within, entries_of}
+use Rattle.rtm_set.specs.Answers.{front_of}
 
 -- an entry of n octets at the front
 pub record Front (s : List ℕ) (n : ℕ) : Type 0 where
@@ -32,19 +34,13 @@ module _ (s : List ℕ) (n : ℕ) (e : n ≡ cond (is_entry s) (front_size s) 0)
       let fits = leb-true m (length s) whole.1 in
       record { is = is; size = size; told = omega arith; some = omega arith; fits = omega arith }
 
-  pub sized : (n ≡ 0 → ⊥) → Front s n
-  sized some = go (is_entry s) refl e
-    where
-      go : (b : Bool) → is_entry s ≡ b → n ≡ cond b (front_size s) 0 → Front s n
-      go true is q = front is
-      go false is q = absurd (some q)
-
-  pub unsized : n ≡ 0 → is_entry s ≡ false
-  unsized none = go (is_entry s) refl
-    where
-      go : (b : Bool) → is_entry s ≡ b → b ≡ false
-      go true is = let f = front is in absurd (omega arith)
-      go false is = refl
+-- what is answered of the front: an entry of this size, or none
+pub sized : (s : List ℕ) (n : ℕ) → front_of s ≡ Some n → Front s n
+sized s n e = go (is_entry s) refl e
+  where
+    go : (b : Bool) → is_entry s ≡ b → cond b (Some (front_size s)) None ≡ Some n → Front s n
+    go true is q = let size : n ≡ front_size s = cc in front s n (size ∙ rw is) is
+    go false is q = absurd (cc)
 
 -- the entries of an answer, with x before them
 abbrev pub before : List ℕ → Answer (List (List ℕ)) → Answer (List (List ℕ))

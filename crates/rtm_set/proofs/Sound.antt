@@ -9,26 +9,10 @@ use borrow.Author.Tests.{ltb-false}
 use lib.Dec.{eqb, ltb}
 use lib.ListN.{length, take, drop}
 use Rattle.refusal.specs.Answer.{Answer, value, refused, refuse}
-use Rattle.refusal.proofs.Answers.{not_both, same_value}
-use Rattle.rtm_set.specs.Entries.{front_size, is_entry, entries_within, entries_of, entries_by, entries_in, Sound, count_of}
+use Rattle.refusal.proofs.Answers.{not_both}
+use Rattle.rtm_set.specs.Entries.{front_size, is_entry, entries_within, entries_of, entries_by, entries_in, Sound}
 use Rattle.rtm_set.proofs.Rest.{Front, before, entries_bad, entries_rest}
 use Rattle.rtm_set.proofs.Counts.{counted, count_few}
-
--- a list that could be counted is sound, and has as many entries
-pub counted_sound : (s : List ℕ) (n : ℕ) → count_of s ≡ value n → Sound s × (n ≡ length (entries_in s))
-counted_sound s n e = go (entries_of s) e
-  where
-    go : (a : Answer (List (List ℕ))) → counted a ≡ value n → (value (entries_by a) ≡ a) × (n ≡ length (entries_by a))
-    go (value es) q = (refl, sym (same_value q))
-    go (refused m) q = absurd (not_both q)
-
--- and one that could not is refused with the same number
-pub counted_refused : (s : List ℕ) (n : ℕ) → count_of s ≡ refused n → entries_of s ≡ refused n
-counted_refused s n e = go (entries_of s) e
-  where
-    go : (a : Answer (List (List ℕ))) → counted a ≡ refused n → a ≡ refused n
-    go (value es) q = absurd (not_both (sym q))
-    go (refused m) q = let z : m ≡ n = cc in ap refused z
 
 -- 19 or 20: nothing else refuses a list
 abbrev Refused : Answer (List (List ℕ)) → Type 0

@@ -1,6 +1,7 @@
 -- The address list of the RTM_SET TLV (document 01, The address list; refusals 19 to 21).
 use Rattle.std.specs.Prelude.{ℕ, zero, suc, ◌+◌, ◌≡◌, Bool, cond, not, ◌&&◌, List, [], ◌∷◌, ltb, leb, eqb, length, get_or, take, drop}
 use Rattle.refusal.specs.Answer.{Answer, value, refused, refuse, and_then}
+use Rattle.rtm_set.specs.declared.part.Part.{Part}
 
 -- an entry's whole length: "type 1 length 8 (IPv4), 2 length 20 (IPv6), 3 length 12 (node and interface)"; 0 for any other type
 abbrev pub entry_size : ℕ → ℕ
@@ -52,11 +53,6 @@ entry_of s k = and_then (entries_of s) (λ es. refuse 21 (leb (length es) k) (va
 abbrev pub part_by : Answer (List ℕ) → List ℕ
 part_by (value e) = e
 part_by (refused n) = []
-
--- a part of a list: where it begins, and its length
-pub record Part : Type 0 where
-  pub offset : ℕ
-  pub length : ℕ
 
 -- the octets that entries have together
 abbrev pub octets_in : List (List ℕ) → ℕ

@@ -2,9 +2,9 @@
 // address list): how many entries it has, and the entry at a place, also as its offset and length.
 #![tactic(auto)]
 
-mod answers;
 pub mod layout;
 mod list;
+mod part;
 
-pub use answers::{Count, Located, Lookup};
 pub use list::{count, entry, locate, lookup};
+pub use part::Part;

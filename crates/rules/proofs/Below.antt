@@ -11,7 +11,7 @@ use borrow.Author.Tests.{ltb-true, lt-ltb}
 use lib.Dec.{eqb-suc-zero}
 use lib.ListN.{get_elem?}
 use Rattle.refusal.specs.Answer.{Answer, value, refused}
-use Rattle.residence.specs.declared.Residence.{Residence}
+use Rattle.residence.specs.Residence.{Residence}
 use Rattle.residence.specs.Residence.{limit, accepted_of}
 use Rattle.residence.proofs.Limit.{below_limit}
 use Rattle.records.specs.declared.Identity.{Identity}

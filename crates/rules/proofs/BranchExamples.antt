@@ -11,7 +11,8 @@ use native.Mathlib.Omega.{arith}
 use lib.IntN.{ℤ, pos, negsuc, ◌+ℤ◌}
 use lib.ListN.{take, replicate, get_elem?}
 use Rattle.refusal.specs.Answer.{refused}
-use Rattle.residence.specs.declared.Residence.TheVariants.{InvalidStamp}
+use Rattle.std.specs.Prelude.{Ok, Err}
+use Rattle.residence.specs.declared.ResidenceError.TheVariants.{InvalidStamp}
 use Rattle.records.specs.Slots.{same, holds, zeros, find}
 use Rattle.records.specs.Node.{Event, tick, call, switchover, replied, run, final}
 use Rattle.image.specs.Image.{sound, differ}
@@ -42,7 +43,7 @@ abbrev sync_third : Call
 sync_third = handed_in two_step (set_sync (pos 98303995)) (stayed 50)
 
 abbrev follow_up_third : Call
-follow_up_third = handed_in two_step (its_follow_up 11) InvalidStamp
+follow_up_third = handed_in two_step (its_follow_up 11) (Err InvalidStamp)
 
 abbrev follow_up_first : Call
 follow_up_first = handed_in one_step (its_follow_up 3276811) (stayed 9)

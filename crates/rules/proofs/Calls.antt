@@ -14,7 +14,7 @@ use lib.Seq.{take_at}
 use Rattle.octets.specs.Octets.{number}
 use Rattle.refusal.specs.Answer.{Answer, value, refused}
 use Rattle.refusal.proofs.Answers.{not_both, Numbered}
-use Rattle.residence.specs.declared.Residence.{Residence}
+use Rattle.residence.specs.Residence.{Residence}
 use Rattle.residence.specs.Residence.{accepted_of}
 use Rattle.residence.proofs.Limit.{below_limit, NineOrTen, nine_or_ten}
 use Rattle.message.proofs.Sound.{SoundPtp}

@@ -12,8 +12,9 @@ use native.Mathlib.Omega.{arith}
 use lib.IntN.{pos, ◌+ℤ◌}
 use lib.ListN.{replicate}
 use Rattle.refusal.specs.Answer.{value}
-use Rattle.residence.specs.declared.Residence.{Residence}
-use Rattle.residence.specs.declared.Residence.TheVariants.{InvalidStamp, TooLong}
+use Rattle.residence.specs.Residence.{Residence}
+use Rattle.std.specs.Prelude.{Ok, Err}
+use Rattle.residence.specs.declared.ResidenceError.TheVariants.{InvalidStamp, TooLong}
 use Rattle.records.specs.Slots.{same, holds}
 use Rattle.records.specs.Node.{tick, call, switchover}
 use Rattle.image.specs.Image.{sound, differ}
@@ -37,10 +38,10 @@ abbrev clear_call : Residence → List ℕ → Call
 clear_call r out = record { mode = two_step; message = a_sync false 98304000; residence = r; output = out }
 
 abbrev invalid : Call
-invalid = clear_call InvalidStamp spare
+invalid = clear_call (Err InvalidStamp) spare
 
 abbrev too_long : Call
-too_long = clear_call TooLong spare
+too_long = clear_call (Err TooLong) spare
 
 abbrev no_room : Call
 no_room = clear_call (stayed 70) (replicate 35 0)

@@ -12,7 +12,8 @@ use native.Mathlib.Omega.{arith}
 use lib.IntN.{ℤ, pos, negsuc, ◌+ℤ◌}
 use lib.ListN.{take, replicate, get_elem?}
 use Rattle.refusal.specs.Answer.{value, refused}
-use Rattle.residence.specs.declared.Residence.TheVariants.{InvalidStamp}
+use Rattle.std.specs.Prelude.{Ok, Err}
+use Rattle.residence.specs.declared.ResidenceError.TheVariants.{InvalidStamp}
 use Rattle.records.specs.declared.RecordKind.TheVariants.{Delay}
 use Rattle.records.specs.declared.Identity.{Identity}
 use Rattle.records.specs.Slots.{Slots, same, holds, zeros, find}
@@ -53,13 +54,13 @@ abbrev request_third : Call
 request_third = handed_in two_step (request (pos 98303995)) (stayed 50)
 
 abbrev response_third : Call
-response_third = handed_in two_step (response (pos 11)) InvalidStamp
+response_third = handed_in two_step (response (pos 11)) (Err InvalidStamp)
 
 abbrev response_second : Call
-response_second = handed_in two_step (response (pos 3276811)) InvalidStamp
+response_second = handed_in two_step (response (pos 3276811)) (Err InvalidStamp)
 
 abbrev response_first : Call
-response_first = handed_in one_step (response (pos 16384011)) InvalidStamp
+response_first = handed_in one_step (response (pos 16384011)) (Err InvalidStamp)
 
 abbrev first : Stop
 first =
@@ -81,7 +82,7 @@ second =
           ∷ call request_second
           ∷ switchover
           ∷ tick
-          ∷ call (handed_in two_step a_follow_up InvalidStamp)
+          ∷ call (handed_in two_step a_follow_up (Err InvalidStamp))
           ∷ call response_second
           ∷ switchover
           ∷ [];
@@ -94,7 +95,7 @@ third =
     record {
       mode = two_step;
       table = record_of (numbered 258) 2 ∷ replicate 15 zeros;
-      events = call request_third ∷ tick ∷ tick ∷ call response_third ∷ call (handed_in two_step a_follow_up InvalidStamp) ∷ [];
+      events = call request_third ∷ tick ∷ tick ∷ call response_third ∷ call (handed_in two_step a_follow_up (Err InvalidStamp)) ∷ [];
       first_place = 0;
       second_place = some 3;
     }

@@ -9,7 +9,8 @@ use native.Mathlib.Omega.{arith}
 use lib.IntN.{ℤ, pos, negsuc, ◌+ℤ◌}
 use lib.ListN.{replicate}
 use Rattle.refusal.specs.Answer.{Answer, value, refused}
-use Rattle.residence.specs.declared.Residence.TheVariants.{InvalidStamp}
+use Rattle.std.specs.Prelude.{Ok, Err}
+use Rattle.residence.specs.declared.ResidenceError.TheVariants.{InvalidStamp}
 use Rattle.records.specs.declared.RecordKind.TheVariants.{Sync}
 use Rattle.records.specs.Slots.{Slots, same, holds, zeros}
 use Rattle.scratch_pad.specs.Sum.{largest, too_low}
@@ -50,7 +51,7 @@ abbrev longest : Slots
 longest = record { kind = Sync; clock = 0x0001020304050607; port = 1; sequence = 258; residence = 2 ^ 64 - 1; wait = 3 } ∷ replicate 15 zeros
 
 abbrev a_follow_up : ℤ → Call
-a_follow_up pad = handed_in two_step (octets_of (numbered 258) true 8 pad) InvalidStamp
+a_follow_up pad = handed_in two_step (octets_of (numbered 258) true 8 pad) (Err InvalidStamp)
 
 all_added : (answer_of longest (a_follow_up largest) ≡ value added) × (answer_of longest (a_follow_up lowest) ≡ value added)
 unfolding same holds

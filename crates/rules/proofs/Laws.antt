@@ -9,7 +9,7 @@ use mathlib.Core.Option.{Option, none, some, none-ne-some}
 use lib.ListN.{get_elem?, take}
 use Rattle.refusal.specs.Answer.{Answer, value, refused}
 use Rattle.refusal.proofs.Answers.{not_both}
-use Rattle.residence.specs.declared.Residence.{Residence}
+use Rattle.residence.specs.Residence.{Residence}
 use Rattle.residence.specs.Residence.{accepted_of}
 use Rattle.records.specs.declared.RecordKind.{RecordKind}
 use Rattle.records.specs.declared.RecordKind.TheVariants.{Sync, Delay}

@@ -13,11 +13,13 @@ use lib.Dec.{ltb, leb, eqb}
 use lib.ListN.{length}
 use Rattle.refusal.specs.Answer.{Answer, value, refused}
 use Rattle.refusal.proofs.Answers.{Numbered, its_number, numbered_by}
-use Rattle.residence.specs.declared.Residence.{Residence}
+use Rattle.residence.specs.Residence.{Residence}
 use Rattle.residence.specs.Residence.{accepted_of}
 use Rattle.residence.proofs.Limit.{NineOrTen, nine_or_ten}
 use Rattle.message.specs.declared.fields.SubTlv.{SubTlv}
-use Rattle.message.specs.Read.{Message, plain, ptp, read_of}
+use Rattle.message.specs.declared.fields.Message.{Message}
+use Rattle.message.specs.declared.fields.Message.TheVariants.{Plain, Ptp}
+use Rattle.message.specs.Read.{read_of}
 use Rattle.message.proofs.Numbers.{read_numbers}
 use Rattle.records.specs.declared.RecordKind.TheVariants.{Sync, Delay}
 use Rattle.records.specs.declared.Record.{Record}
@@ -74,8 +76,8 @@ module _ (m : Mode) (c : Call) where
   kind_read s = go (read_of s) refl
     where
       go : (a : Answer Message) → read_of s ≡ a → Read (kind_by a)
-      go (value (plain h)) e = tt
-      go (value (ptp h t)) e = ptp_read t
+      go (value (Plain h)) e = tt
+      go (value (Ptp h t)) e = ptp_read t
       go (refused n) e = low m c n (read_numbers s n e).0 (omega (arith, (read_numbers s n e).1))
 
 -- a one-step node

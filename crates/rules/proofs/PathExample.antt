@@ -12,7 +12,8 @@ use native.Mathlib.Omega.{arith}
 use lib.IntN.{pos, ◌+ℤ◌}
 use lib.ListN.{take, drop, replicate, get_elem?}
 use Rattle.refusal.specs.Answer.{Answer, value, refused}
-use Rattle.residence.specs.declared.Residence.TheVariants.{InvalidStamp}
+use Rattle.std.specs.Prelude.{Ok, Err}
+use Rattle.residence.specs.declared.ResidenceError.TheVariants.{InvalidStamp}
 use Rattle.records.specs.declared.Identity.{Identity}
 use Rattle.records.specs.Slots.{Slots, same, holds, zeros, lowest}
 use Rattle.records.specs.Node.{tick, call, switchover, Result, told, replied, taken_over, run, final}
@@ -70,7 +71,7 @@ abbrev sync_third : Call
 sync_third = handed_in two_step (a_sync true 98304000) (stayed 50)
 
 abbrev follow_up_third : Call
-follow_up_third = handed_in two_step (a_follow_up 13107200) InvalidStamp
+follow_up_third = handed_in two_step (a_follow_up 13107200) (Err InvalidStamp)
 
 abbrev first : Stop
 first =
@@ -97,7 +98,7 @@ second =
       table = slots;
       events =
           call (handed_in two_step (of_type 1) (stayed 9))
-          ∷ call (handed_in two_step (octets_of another true 0 (pos 0)) InvalidStamp)
+          ∷ call (handed_in two_step (octets_of another true 0 (pos 0)) (Err InvalidStamp))
           ∷ call sync_second
           ∷ call (handed_in two_step (octets_of theirs true 8 (pos 0)) (stayed 9))
           ∷ tick
@@ -115,7 +116,7 @@ third =
       events =
           tick
           ∷ call (handed_in two_step of_version_one (stayed 9))
-          ∷ call (handed_in two_step (of_type 4) InvalidStamp)
+          ∷ call (handed_in two_step (of_type 4) (Err InvalidStamp))
           ∷ call sync_third
           ∷ tick
           ∷ switchover

@@ -12,8 +12,8 @@ use lib.ListN.{length, get_elem?, replicate}
 use Rattle.octets.specs.Octets.{Octets}
 use Rattle.refusal.specs.Answer.{Answer, value, refused}
 use Rattle.refusal.proofs.Answers.{not_both}
-use Rattle.residence.specs.declared.Residence.{Residence}
-use Rattle.residence.specs.declared.Residence.TheVariants.{Units}
+use Rattle.residence.specs.Residence.{Residence}
+use Rattle.std.specs.Prelude.{Ok, Err}
 use Rattle.residence.specs.Residence.{accepted_of}
 use Rattle.message.specs.Write.{ptp_octets}
 use Rattle.records.specs.declared.RecordKind.TheVariants.{Sync}
@@ -46,7 +46,7 @@ octets_of q s k pad =
 
 -- the residence of so many nanoseconds
 abbrev pub stayed : ℕ → Residence
-stayed n = Units (n * 65536)
+stayed n = Ok (n * 65536)
 
 -- a call with an output of 40 zeros
 abbrev pub spare : List ℕ

@@ -9,7 +9,8 @@ use lib.IntN.{pos}
 use lib.ListN.{length, take, replicate}
 use Rattle.octets.proofs.Low.{low-Octets}
 use Rattle.refusal.specs.Answer.{value}
-use Rattle.residence.specs.declared.Residence.TheVariants.{InvalidStamp}
+use Rattle.std.specs.Prelude.{Ok, Err}
+use Rattle.residence.specs.declared.ResidenceError.TheVariants.{InvalidStamp}
 use Rattle.records.specs.Slots.{Slots, same, holds, zeros}
 use Rattle.records.specs.Node.{Event, tick, call, final}
 use Rattle.image.specs.declared.Form.TheVariants.{Old}
@@ -31,7 +32,7 @@ events =
     call (handed_in two_step (of_type 0) (stayed 1))
     ∷ call (handed_in two_step (of_type 1) (stayed 9))
     ∷ tick
-    ∷ call (handed_in two_step (of_type 9) InvalidStamp)
+    ∷ call (handed_in two_step (of_type 9) (Err InvalidStamp))
     ∷ []
 
 -- that the table has an image, of at most 386 octets

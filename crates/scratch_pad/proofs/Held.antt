@@ -1,13 +1,11 @@
 -- Sums held at the largest pad: a number of the range stays, residences may be added one by one or all at once, the sum is in the range,
 -- never below it, and below the largest pad it is the plain one.
 -- Assumes nothing.
-use Rattle.std.proofs.Common.{◌≡◌, ℕ, suc, ◌+◌, ◌-◌, ◌^◌, ◌<◌, ◌≤◌, Bool, true, false, cond, ltb, leb, ℤ, pos, negsuc, ◌+ℤ◌, sym, refl, ap, ◌∙◌, true≢false, arith, w64, SFits, to_z, of_z, ltb-false, ltb-true, lt-ltb, le-leb, leb-false, leb-true}
+use Rattle.std.proofs.Common.{◌≡◌, ℕ, suc, ◌+◌, ◌-◌, ◌^◌, ◌≤◌, Bool, true, false, cond, ltb, leb, ℤ, pos, negsuc, ◌+ℤ◌, refl, ap, ◌∙◌, true≢false, arith, w64, to_z, ltb-false, ltb-true, lt-ltb, le-leb, leb-false, leb-true}
 use borrow.Author.Tests.{lt-leb}
 use lib.IntN.{+ℤ_idr, +ℤ_assoc}
-use mir.ValLaws.{to_z-of_z}
 use Rattle.scratch_pad.specs.Sum.{largest, too_big, too_low, held, raised}
-use Rattle.scratch_pad.specs.Offset.{from_offset}
-use Rattle.scratch_pad.proofs.Whole.{above, below, parts, is, in_range, in_range_lem}
+use Rattle.scratch_pad.proofs.Whole.{above, below, parts, in_range}
 
 -- a number of the range is held as it is
 pub held_in : (z : ℤ) → in_range z ≡ true → held z ≡ z
@@ -81,37 +79,3 @@ read_range n = go (ltb n (2 ^ 63)) refl
     go : (b : Bool) → ltb n (2 ^ 63) ≡ b → in_range (cond b (pos n) (negsuc (2 ^ 64 - suc n))) ≡ true
     go true e = e
     go false e = lt-ltb (2 ^ 64 - suc n) (2 ^ 63) (omega (arith, ltb-false n (2 ^ 63) e))
-
--- ---- sums with their offsets: a is the sum and 2^63
-
--- a sum over the range, or the largest of it
-pub held_over : (w : ℤ) (a : ℕ) → a + below w ≡ 2 ^ 63 + above w → 2 ^ 64 - 1 ≤ a → held w ≡ largest
-held_over (pos n) a h l = rw (le-leb (2 ^ 63 - 1) n (omega arith))
-held_over (negsuc n) a h l = absurd (omega arith)
-
--- a sum within it: r is what the code made of a
-pub held_sum : (z y r : ℤ) (a : ℕ) → SFits w64 r → r ≡ from_offset a → a + below (z +ℤ y) ≡ 2 ^ 63 + above (z +ℤ y) → a < 2 ^ 64 → to_z w64 (of_z w64 r) ≡ held (z +ℤ y)
-held_sum z y r a f e h l =
-    to_z-of_z w64 r f ∙ e ∙ is a (2 ^ 63) (z +ℤ y) h ∙ sym (held_in (z +ℤ y) (in_range_lem (z +ℤ y) a h l))
-
--- the test of a pad, by its offset
-pub at_largest : (z : ℤ) (a : ℕ) → a + below z ≡ above z + 2 ^ 63 → a ≡ 2 ^ 64 - 1 → too_big z ≡ true
-at_largest (pos n) a h e = le-leb (2 ^ 63 - 1) n (omega arith)
-at_largest (negsuc n) a h e = absurd (omega arith)
-
-pub not_largest : (z : ℤ) (a : ℕ) → a + below z ≡ above z + 2 ^ 63 → a < 2 ^ 64 - 1 → too_big z ≡ false
-not_largest (pos n) a h l = lt-leb (2 ^ 63 - 1) n (omega arith)
-not_largest (negsuc n) a h l = refl
-
-pub not_low : (w : ℤ) (a : ℕ) → a + below w ≡ 2 ^ 63 + above w → too_low w ≡ false
-not_low (pos n) a h = refl
-not_low (negsuc n) a h = lt-leb (2 ^ 63) n (omega arith)
-
-pub low : (w : ℤ) → 2 ^ 63 + above w < below w → too_low w ≡ true
-low (pos n) l = absurd (omega arith)
-low (negsuc n) l = le-leb (2 ^ 63) n (omega arith)
-
--- a pad that is not below 0, by its offset
-pub not_negative : (z : ℤ) (b : ℕ) → b + below z ≡ above z + 2 ^ 63 → 2 ^ 63 ≤ b → z ≡ pos (b - 2 ^ 63)
-not_negative (pos n) b h l = ap pos (omega arith)
-not_negative (negsuc n) b h l = absurd (omega arith)

@@ -1,9 +1,7 @@
 -- Sums on the Scratch Pad (document 01: "The pad is an ordinary signed number over its whole range."; document 02, W-205, takes one
 -- number out of it; refusal 11).
 use Rattle.std.specs.Prelude.{◌≡◌, ℕ, ◌-◌, ◌^◌, Bool, false, cond, ◌||◌, ℤ, pos, negsuc, ◌+ℤ◌, nat_le}
-use Rattle.refusal.specs.Answer.{Answer, value, refused, refuse}
-use Rattle.scratch_pad.specs.declared.Sum.{Sum}
-use Rattle.scratch_pad.specs.declared.Sum.TheVariants.{Of, Refused}
+use Rattle.refusal.specs.Answer.{Answer, value, refuse}
 
 -- "IEEE 1588 gives a correctionField of 2^63-1 the meaning that the correction cannot be represented."
 abbrev pub largest : ℤ
@@ -36,7 +34,3 @@ pad_sum z y = cond (too_big z || too_big y) (value largest) (refuse 11 (too_low 
 -- it does not matter which of the two is the first
 abbrev pub SymmetricSum : Type 0
 SymmetricSum = (z y : ℤ) → pad_sum z y ≡ pad_sum y z
-
-abbrev pub sum_answer : Sum → Answer ℤ
-sum_answer (Of z) = value z
-sum_answer (Refused n) = refused n

@@ -1,8 +1,7 @@
 -- The stamps of a node call, of either format, and the residence between them.
 use Rattle.std.specs.Prelude.{◌≡◌, ℕ}
 use Rattle.refusal.specs.Answer.{Answer, refused}
-use Rattle.residence.specs.declared.Residence.{Residence}
-use Rattle.residence.specs.Residence.{residence_answer, Promise}
+use Rattle.residence.specs.Residence.{Residence, residence_answer, Promise}
 use Rattle.stamp.specs.declared.ntp.Stamp.{Stamp}
 use Rattle.stamp.specs.declared.stamps.Stamps.{Stamps}
 use Rattle.stamp.specs.declared.stamps.Stamps.TheVariants.{Ptp, Ntp}

@@ -3,10 +3,10 @@ ghost use Rattle.std.specs.Prelude.{◌≡◌, ◌+◌, ◌-◌, ◌%◌, ◌^�
 ghost use Rattle.residence.specs.Residence.{residence_answer};
 ghost use Rattle.stamp.specs.Ntp.{as_number, difference, in_pad_units, limit, residence_of};
 
-use residence::Residence;
+use residence::{Residence, ResidenceError};
 
-// An NTP 64-bit timestamp: seconds, and the fraction of a second in units of 2^-32. Every value is
-// a time.
+/// An NTP 64-bit timestamp: seconds, and the fraction of a second in units of 2^-32. Every value is
+/// a time.
 #[derive(Clone, Copy)]
 pub struct Stamp {
     pub seconds: u32,
@@ -20,17 +20,17 @@ const LIMIT: u64 = 17_179_869_184;
 fn as_number(stamp: Stamp) -> u64
     ensures { result ≡ as_number stamp }
 {
-    stamp.seconds as u64 * 4_294_967_296 + stamp.fraction as u64
+    u64::from(stamp.seconds) * 4_294_967_296 + u64::from(stamp.fraction)
 }
 
 // The exit less the entry: the numbers pass from 2^64 - 1 to 0.
 fn number_between(entry: u64, exit: u64) -> u64
     ensures { result ≡ (exit + 2 ^ 64 - entry) % 2 ^ 64 }
 {
-    std::num::wrapping_sub_u64(exit, entry)
+    exit.wrapping_sub(entry)
 }
 
-// The difference of whole stamps, in units of 2^-32 second.
+/// The difference of whole stamps, in units of 2^-32 second.
 pub fn difference_between(entry: Stamp, exit: Stamp) -> u64
     ensures { result ≡ difference entry exit }
 {
@@ -45,14 +45,14 @@ fn in_pad_units(difference: u64) -> u64
     difference * 1_000_000_000 / 65_536
 }
 
-// The residence in pad units, as it goes on to a node; too long is refusal 10, and nothing else is
-// refused.
+/// The residence in pad units, as it goes on to a node; too long is refusal 10, and nothing else is
+/// refused.
 pub fn residence_between(entry: Stamp, exit: Stamp) -> Residence
     ensures { residence_answer result ≡ residence_of entry exit }
 {
     let difference = difference_between(entry, exit);
     if LIMIT <= difference {
-        return Residence::TooLong;
+        return Err(ResidenceError::TooLong);
     }
-    Residence::Units(in_pad_units(difference))
+    Ok(in_pad_units(difference))
 }

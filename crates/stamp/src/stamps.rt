@@ -6,14 +6,14 @@ ghost use Rattle.stamp.specs.Stamps.{residence_of};
 use crate::{ntp, ptp};
 use residence::Residence;
 
-// The stamps of a message's entry and exit.
+/// The stamps of a message's entry and exit.
 #[derive(Clone, Copy)]
 pub enum Stamps {
     Ptp(ptp::Stamp, ptp::Stamp),
     Ntp(ntp::Stamp, ntp::Stamp),
 }
 
-// The residence between the two, as it goes on to a node: nothing behind it knows the format.
+/// The residence between the two, as it goes on to a node: nothing behind it knows the format.
 pub fn residence_of(stamps: Stamps) -> Residence
     ensures { residence_answer result ≡ residence_of stamps }
 {

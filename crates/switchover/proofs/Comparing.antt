@@ -2,25 +2,17 @@
 -- others agree too.
 -- Assumes nothing.
 use Prim.Native.Nat.{ℕ, suc, ◌+◌, ◌*◌, ◌-◌, ◌<◌, ◌≤◌}
-use mathlib.Core.Path.{◌≡◌, refl, sym, ap, ◌∙◌}
-use mathlib.Core.Logic.{◌≢◌}
-use mathlib.Core.Bool.{Bool, true, false, ◌&&◌, and-true, and-false}
-use mathlib.Core.List.{List, [], ◌∷◌}
+use mathlib.Core.Path.{◌≡◌, refl}
+use mathlib.Core.Bool.{Bool, true, ◌&&◌}
+use mathlib.Core.List.{List}
 use native.Mathlib.Omega.{arith}
-use borrow.Author.Tests.{eq-eqb, ne_eqb}
+use borrow.Author.Tests.{eq-eqb}
 use lib.Dec.{eqb}
 use lib.ListN.{length, take, replicate}
 use Rattle.octets.specs.Octets.{number}
 use Rattle.image.specs.declared.Form.{Form}
 use Rattle.image.specs.Layout.{lead, fields_at, alike, image_size, count_in, is_laid_out}
 use Rattle.switchover.proofs.Offsets.{offset, offsets_from, offsets_all, offsets_next}
-
--- the octet that leads the new form
-pub first_led : (s : List ℕ) (x : ℕ) → x ≡ number 1 s 0 → eqb x 255 ≡ alike (take 1 s) (255 ∷ [])
-first_led [] x e = ne_eqb x 255 (λ z. omega arith)
-first_led (y ∷ s) x e =
-    let same : x ≡ y = omega arith in
-    ap (λ (n : ℕ). eqb n 255) same ∙ sym (and-true (eqb y 255))
 
 module _ (F : Form) where
   -- the offsets that the octets say from place p on are those of the layout from number k on
@@ -31,12 +23,6 @@ module _ (F : Form) where
   Compared s n p k = (k ≤ n) × (p ≡ length (lead F) + 1 + 2 * k) × (is_laid_out F s ≡ agree s n p k)
 
   module _ (s : List ℕ) (n : ℕ) (told : n ≡ count_in F s) where
-    pub lead_differs : alike (take (length (lead F)) s) (lead F) ≡ false → false ≡ is_laid_out F s
-    lead_differs e = rw e refl
-
-    pub size_differs : length s ≢ image_size F n → false ≡ is_laid_out F s
-    size_differs d = rw (← told, ne_eqb (length s) (image_size F n) d) (sym (and-false (alike (take (length (lead F)) s) (lead F))))
-
     pub compare_first :
         (p : ℕ) → p ≡ length (lead F) + 1 → alike (take (length (lead F)) s) (lead F) ≡ true → length s ≡ image_size F n → Compared s n p 0
     compare_first p at e z =
@@ -51,11 +37,3 @@ module _ (F : Form) where
 
     pub compare_on : k < n → number 2 s p ≡ offset F n k → Compared s n (p + 2) (k + 1)
     compare_on h e = (omega arith, omega arith, rw (eq-eqb (number 2 s p) (offset F n k) e) at (laid_out_next h))
-
-    pub compare_differs : k < n → number 2 s p ≢ offset F n k → false ≡ is_laid_out F s
-    compare_differs h d = sym (rw (ne_eqb (number 2 s p) (offset F n k) d) at (laid_out_next h))
-
-    pub compare_done : n ≤ k → true ≡ is_laid_out F s
-    compare_done h =
-        let none : n - k ≡ 0 = omega arith in
-        sym (rw none at c.2)

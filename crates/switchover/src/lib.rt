@@ -11,6 +11,5 @@ mod loader;
 mod writer;
 
 pub use converter::{to_new, to_old};
-pub use loader::{Loaded, Loading, load};
-pub use refusal::Written;
+pub use loader::{Loaded, load};
 pub use writer::write;

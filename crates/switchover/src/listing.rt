@@ -1,84 +1,98 @@
 // The records of a table as an image lists them, and which records an image can hold and tell.
-ghost use Rattle.std.specs.Prelude.{◌+◌, ◌<◌, ◌≤◌, ◌≡◌, length, get_or, take, drop};
+ghost use Rattle.std.specs.Prelude.{◌-◌, ◌≤◌, ◌≡◌, take, drop, replicate};
 ghost use Rattle.records.specs.Slots.{identity_of, zeros, records_of};
-ghost use Rattle.image.specs.Image.{sound, every, differ, loadable, of_sync, tells, filled};
+ghost use Rattle.image.specs.Image.{right_wait, sound, every, differ, distinct, loadable, of_sync, tells};
 
 use image::Form;
-use records::{Record, RecordKind};
+use records::{Identity, Record, RecordKind};
 
-// Records from slot 0 on, and how many; the other slots are zeros.
+// Records from slot 0 on, and how many; the other slots are zeros. There is no heap for a Vec.
 #[derive(Clone, Copy)]
 pub(crate) struct Listing {
-    pub records: [Record; 16],
+    pub slots: [Record; 16],
     pub count: usize,
+    ghost few: { count ≤ 16 },
+    ghost others: { drop count slots ≡ replicate (16 - count) zeros },
+}
+
+impl Listing {
+    pub(crate) fn records(&self) -> &[Record]
+        ensures { result.now ≡ take self.now.count self.now.slots }
+    {
+        &self.slots[..self.count]
+    }
 }
 
 // The records of a table, in slot order.
 pub(crate) fn list(slots: [Record; 16]) -> Listing
-    ensures { (result.records ≡ filled (records_of slots)) × (result.count ≡ length (records_of slots)) × (result.count ≤ 16) }
+    ensures { take result.count result.slots ≡ records_of slots }
 {
-    let mut records = [Record::zeros(); 16];
+    let mut listed = [Record::zeros(); 16];
     let mut count: usize = 0;
-    let mut i: usize = 0;
-    while i < 16 {
-        let slot = slots[i];
+    for slot in slots {
         let holds = slot.wait != 0;
         if holds {
-            records[count] = slot;
+            listed[count] = slot;
             count += 1;
         }
-        i += 1;
     }
-    Listing { records, count }
+    Listing {
+        slots: listed,
+        count,
+    }
+}
+
+fn has_right_wait(slot: Record) -> bool
+    ensures { result ≡ right_wait slot }
+{
+    matches!(slot.wait, 1..=3)
 }
 
 // Wait and residence are such as a node leaves.
 fn is_sound(slot: Record) -> bool
     ensures { result ≡ sound slot }
 {
-    if slot.wait < 1 {
-        return false;
-    }
-    if 3 < slot.wait {
-        return false;
-    }
-    slot.residence < residence::LIMIT
+    has_right_wait(slot) && slot.residence < residence::LIMIT
 }
 
-// The identity of record i differs from those of the records after it, of n.
-fn differs_from_rest(records: [Record; 16], n: usize, i: usize) -> bool
-    requires { (n ≤ 16) × (i < n) }
-    ensures { result ≡ every (differ (identity_of (get_or records i zeros))) (drop (i + 1) (take n records)) }
+// The identity differs from those of the records.
+fn differs_from_all(identity: Identity, records: &[Record]) -> bool
+    ensures { result ≡ every (differ identity) records.now }
 {
-    let identity = records[i].identity();
-    let mut j = i + 1;
-    while j < n {
-        let other = records[j];
-        if identity.equals(other.identity()) {
+    records.iter().all(|record| differs(identity, *record))
+}
+
+#[tactic(auto, unfolding(image::specs::Image::differ, records::specs::Slots::same))]
+fn differs(identity: Identity, slot: Record) -> bool
+    ensures { result ≡ differ identity slot }
+{
+    identity != slot.identity()
+}
+
+// No two of the records have the same identity.
+fn are_distinct(records: &[Record]) -> bool
+    ensures { result ≡ distinct records.now }
+{
+    for (i, record) in records.iter().enumerate() {
+        if !differs_from_all(record.identity(), &records[i + 1..]) {
             return false;
         }
-        j += 1;
     }
     true
 }
 
-// The first n records are such as an image can hold.
-pub(crate) fn are_loadable(records: [Record; 16], n: usize) -> bool
-    requires { n ≤ 16 }
-    ensures { result ≡ loadable (take n records) }
+// Each of the records is sound.
+fn are_sound(records: &[Record]) -> bool
+    ensures { result ≡ every sound records.now }
 {
-    let mut i: usize = 0;
-    while i < n {
-        let record = records[i];
-        if !is_sound(record) {
-            return false;
-        }
-        if !differs_from_rest(records, n, i) {
-            return false;
-        }
-        i += 1;
-    }
-    true
+    records.iter().all(|record| is_sound(*record))
+}
+
+// The records are such as an image can hold.
+pub(crate) fn are_loadable(records: &[Record]) -> bool
+    ensures { result ≡ loadable records.now }
+{
+    records.len() <= 16 && are_sound(records) && are_distinct(records)
 }
 
 // The record is of kind Sync.
@@ -86,36 +100,22 @@ pub(crate) fn are_loadable(records: [Record; 16], n: usize) -> bool
 fn is_of_sync(slot: Record) -> bool
     ensures { result ≡ of_sync slot }
 {
-    let kind = slot.kind;
-    match kind {
-        RecordKind::Sync => true,
-        RecordKind::Delay => false,
-    }
+    slot.kind == RecordKind::Sync
 }
 
-// Each of the first n records is of kind Sync.
-fn are_of_sync(records: [Record; 16], n: usize) -> bool
-    requires { n ≤ 16 }
-    ensures { result ≡ every of_sync (take n records) }
+// Each of the records is of kind Sync.
+fn are_of_sync(records: &[Record]) -> bool
+    ensures { result ≡ every of_sync records.now }
 {
-    let mut i: usize = 0;
-    while i < n {
-        let record = records[i];
-        if !is_of_sync(record) {
-            return false;
-        }
-        i += 1;
-    }
-    true
+    records.iter().all(|record| is_of_sync(*record))
 }
 
-// An image of the form tells the kinds of the first n records.
-pub(crate) fn are_told(form: Form, records: [Record; 16], n: usize) -> bool
-    requires { n ≤ 16 }
-    ensures { result ≡ tells form (take n records) }
+// An image of the form tells the kinds of the records.
+pub(crate) fn are_told(form: Form, records: &[Record]) -> bool
+    ensures { result ≡ tells form records.now }
 {
     match form {
-        Form::Old => are_of_sync(records, n),
+        Form::Old => are_of_sync(records),
         Form::New => true,
     }
 }

@@ -1,1 +1,1 @@
-pub mod Reloads
+pub mod Numbers

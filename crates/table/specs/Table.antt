@@ -5,7 +5,8 @@ use Rattle.image.specs.Image.{load_of, load_into}
 use Rattle.switchover.specs.Answers.{loading_answer}
 use Rattle.words.specs.Words.{slots_of, number_of, loaded_words}
 use Rattle.words.specs.Answers.{Left, left}
-use Rattle.lent.specs.Answers.{entry_answer, found_answer}
+use Rattle.refusal.specs.Refusal.{answer_of}
+use Rattle.lent.specs.Answers.{entry_answer}
 use Rattle.table.specs.declared.Table.{Table}
 use Rattle.table.specs.declared.Entered.{Entered}
 use Rattle.table.specs.declared.Taken.{Taken}
@@ -20,7 +21,7 @@ abbrev pub entered : Entered → Left
 entered r = handed_back (entry_answer r.answer) r.table
 
 abbrev pub taken : Taken → Left
-taken r = handed_back (found_answer r.answer) r.table
+taken r = handed_back (answer_of r.answer) r.table
 
 abbrev pub counted : Ticked → Left
 counted r = handed_back (value r.emptied) r.table

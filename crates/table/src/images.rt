@@ -8,29 +8,21 @@ ghost use Rattle.words.specs.Words.{slots_of};
 ghost use Rattle.words.specs.Answers.{left};
 ghost use Rattle.table.specs.Table.{load_on};
 
-use refusal::Written;
-use switchover::Loading;
+use refusal::Refusal;
 
-// Writes the image of a lent table: see `Table::write`.
-pub fn write_image(words: &[u64; 64], out: &mut [u8]) -> Written
+/// Writes the image of a lent table: see `Table::write`.
+pub fn write_image(words: &[u64; 64], out: &mut [u8]) -> Result<usize, Refusal>
     ensures { written result out.new ≡ write_of (slots_of words.now) out.old }
 {
     switchover::write(lent::slots(words), out)
 }
 
-// Loads an image into a lent table: see `Table::load`. A refusal leaves every word as it came.
-pub fn load_image(words: &mut [u64; 64], octets: &[u8]) -> Loading
+/// Loads an image into a lent table: see `Table::load`. A refusal leaves every word as it came.
+pub fn load_image(words: &mut [u64; 64], octets: &[u8]) -> Result<(), Refusal>
     ensures { left (loading_answer result) words.new ≡ load_on octets.now words.old }
 {
     let loaded = switchover::load(octets);
-    let slots = loaded.slots;
-    let number = loaded.number;
-    let answer = loaded.answer;
-    match answer {
-        Loading::Replaced => {
-            lent::fill(words, slots, number);
-            Loading::Replaced
-        }
-        Loading::Refused(n) => Loading::Refused(n),
-    }
+    loaded.answer?;
+    lent::fill(words, loaded.slots, loaded.number);
+    Ok(())
 }

@@ -15,57 +15,60 @@ ghost use Rattle.words.specs.Answers.{new_on, request_on, tick_on, filled_on};
 ghost use Rattle.table.specs.Table.{made, entered, taken, counted, load_on, reloaded};
 
 pub use images::{load_image, write_image};
-pub use lent::{Entry, Found, add, clear, collect, fill, number, slots, tick, waiting};
+pub use lent::{add, clear, collect, fill, number, slots, tick, waiting};
 use records::{Identity, Record};
-pub use refusal::Written;
-pub use switchover::Loading;
+use refusal::Refusal;
 
-// The words are slots, a number and room for later fields (specs/Words.antt of `words`). In a new or
-// a loaded table, and in what the operations make of one, the number is how many slots hold a record.
-// In any other table it is any octet: over 16 it is read as 16, and no answer but that of `waiting`
-// depends on it.
+/// The words are slots, a number and room for later fields (specs/Words.antt of `words`). In a new
+/// or a loaded table, and in what the operations make of one, the number is how many slots hold a
+/// record. In any other table it is any octet: over 16 it is read as 16, and no answer but that of
+/// `waiting` depends on it.
 #[derive(Clone, Copy)]
 pub struct Table {
     pub words: [u64; 64],
 }
 
-// The table after a record was added, and the answer.
+// What the methods hand back is document 01's form: they take the table by value, and hand it back on
+// refusal too, so that it stands beside the answer.
+
+/// The table after a record was added, and the answer.
 #[derive(Clone, Copy)]
 pub struct Entered {
     pub table: Table,
-    pub answer: Entry,
+    pub answer: Result<(), Refusal>,
 }
 
-// The table after a record was collected, and the answer.
+/// The table after a record was collected, and the answer.
 #[derive(Clone, Copy)]
 pub struct Taken {
     pub table: Table,
-    pub answer: Found,
+    pub answer: Result<u64, Refusal>,
 }
 
-// The table after a tick, and how many slots it emptied.
+/// The table after a tick, and how many slots it emptied.
 #[derive(Clone, Copy)]
 pub struct Ticked {
     pub table: Table,
     pub emptied: u8,
 }
 
-// The table after an image was loaded, and the answer.
+/// The table after an image was loaded, and the answer.
 #[derive(Clone, Copy)]
 pub struct Reloaded {
     pub table: Table,
-    pub answer: Loading,
+    pub answer: Result<(), Refusal>,
 }
 
 impl Table {
-    // A table with no records: all zeros.
+    /// A table with no records: all zeros.
+    #[tactic(auto, unfolding(words::specs::Words::decoded, words::specs::Words::slots_of, words::specs::Words::number_of))]
     pub fn new() -> Table
         ensures { made result ≡ new_on }
     {
         Table { words: [0; 64] }
     }
 
-    // A table with these slots and this number, and nothing else.
+    /// A table with these slots and this number, and nothing else.
     pub fn of(slots: [Record; 16], number: u8) -> Table
         ensures { made result ≡ filled_on slots number (replicate 64 0) }
     {
@@ -74,29 +77,29 @@ impl Table {
         table
     }
 
-    // The slots as records.
+    /// The slots as records.
     pub fn slots(self) -> [Record; 16]
         ensures { result ≡ slots_of self.words }
     {
         lent::slots(&self.words)
     }
 
-    // The number as it is kept.
+    /// The number as it is kept.
     pub fn number(self) -> u8
         ensures { result ≡ number_of self.words }
     {
         lent::number(&self.words)
     }
 
-    // How many records wait, by the number that the table keeps: at most 16. No slot is looked at.
+    /// How many records wait, by the number that the table keeps: at most 16. No slot is looked at.
     pub fn waiting(self) -> u8
         ensures { result ≡ read_number (number_of self.words) }
     {
         lent::waiting(&self.words)
     }
 
-    // Puts a record with a wait of 3 into the lowest empty slot; refusal 13 where one with its
-    // identity waits already, 14 where no slot is empty.
+    /// Puts a record with a wait of 3 into the lowest empty slot; refusal 13 where one with its
+    /// identity waits already, 14 where no slot is empty.
     pub fn add(mut self, identity: Identity, residence: u64) -> Entered
         ensures { entered result ≡ request_on (request_add identity residence) self.words }
     {
@@ -107,7 +110,7 @@ impl Table {
         }
     }
 
-    // Takes the record with this identity out; refusal 15 where there is none.
+    /// Takes the record with this identity out; refusal 15 where there is none.
     pub fn collect(mut self, identity: Identity) -> Taken
         ensures { taken result ≡ request_on (request_collect identity) self.words }
     {
@@ -118,7 +121,7 @@ impl Table {
         }
     }
 
-    // Lowers every wait above 0 by one, empties the slots whose wait reaches 0, and counts them.
+    /// Lowers every wait above 0 by one, empties the slots whose wait reaches 0, and counts them.
     pub fn tick(mut self) -> Ticked
         ensures { counted result ≡ tick_on self.words }
     {
@@ -129,18 +132,18 @@ impl Table {
         }
     }
 
-    // Writes the image of this table, in the new form, at the start of the output, which stays as it
-    // came beyond the size and on refusal. Only records count. Refusal 22 where they could not be
-    // loaded, then 12.
-    pub fn write(self, out: &mut [u8]) -> Written
+    /// Writes the image of this table, in the new form, at the start of the output, which stays as
+    /// it came beyond the size and on refusal. Only records count. Refusal 22 where they could not
+    /// be loaded, then 12.
+    pub fn write(self, out: &mut [u8]) -> Result<usize, Refusal>
         ensures { written result out.new ≡ write_of (slots_of self.words) out.old }
     {
         images::write_image(&self.words, out)
     }
 
-    // The table that an image of either form loads: its records from slot 0 on, in its order, and
-    // zeros; and their number. Reserved words stay. Refusal 22 for any other octets, with the table
-    // that came.
+    /// The table that an image of either form loads: its records from slot 0 on, in its order, and
+    /// zeros; and their number. Reserved words stay. Refusal 22 for any other octets, with the
+    /// table that came.
     pub fn load(mut self, octets: &[u8]) -> Reloaded
         ensures { reloaded result ≡ load_on octets.now self.words }
     {

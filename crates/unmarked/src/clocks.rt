@@ -1,89 +1,59 @@
 // Cards with clocks of both formats: a path over PTP and NTP stamps, and the longest NTP residence
 // at a switchover.
-use crate::{messages, switchovers, waits};
-use egress::Joined;
-use message::types;
-use stamp::{Stamps, ntp, ptp};
-use table::Table;
+use crate::answers::told;
+use crate::card::Card;
+use crate::messages::Kind;
+use crate::stamps::NTP_ZERO;
+use crate::{messages, stamps};
+use stamp::ntp;
+use std::io;
 
-// Stamps that are so many nanoseconds apart.
-pub(crate) fn ptp_stamps(nanoseconds: u32) -> Stamps {
-    let entry = ptp::Stamp {
-        seconds: 0,
-        nanoseconds: 0,
-    };
-    let exit = ptp::Stamp {
-        seconds: 0,
-        nanoseconds,
-    };
-    Stamps::Ptp(entry, exit)
-}
-
-// Stamps that are so many seconds and units of 2^-32 second apart.
-fn ntp_stamps(seconds: u32, fraction: u32) -> Stamps {
-    let entry = ntp::Stamp {
-        seconds: 0,
-        fraction: 0,
-    };
-    let exit = ntp::Stamp { seconds, fraction };
-    Stamps::Ntp(entry, exit)
-}
-
-// Hands a message to a two-step node, prints the answer, and hands the table on.
-pub(crate) fn hand(
-    rt: &impl Print,
-    table: Table,
-    message: &mut [u8],
-    output: &mut [u8],
-    stamps: Stamps,
-) -> Table {
-    let done = rtm::two_step(table, message, output, stamps);
-    let answer = done.answer;
-    print::text(rt, b", ");
-    print::answer(rt, answer);
-    done.table
-}
-
-pub(crate) fn join<'a>(rt: &impl Print, sync: &'a [u8], follow_up: &'a [u8]) {
+// Ends the line with what the Sync and the Follow_Up come to.
+pub(crate) fn join(rt: &impl Print, sync: &[u8], follow_up: &[u8]) -> io::Result<()> {
     match egress::join(sync, follow_up) {
-        Joined::Total(total) => print::number(rt, b", total ", octets::unsigned(total)),
-        Joined::Refused(n) => print::refused(rt, n),
-    };
-    print::end_line(rt);
+        Ok(total) => println!(rt; ", total {total}"),
+        Err(refusal) => println!(rt; ", {refusal}"),
+    }
 }
 
 // A Sync over a one-step node (1,500 ns) and two two-step nodes (differences of 65,536 and 1), and
 // the Follow_Up that the second creates.
-fn path(rt: &impl Print) {
-    print::text(rt, b"path with clocks of both formats, ");
-    let mut sync = [0u8; 36];
-    let mut follow_up = [0u8; 36];
-    let mut spare = [0u8; 36];
-    messages::write(&mut sync, messages::of_type(3, 0), b"");
-    print::answer(rt, rtm::one_step(&mut sync, ptp_stamps(1_500)));
-    hand(
-        rt,
-        Table::new(),
-        &mut sync,
-        &mut follow_up,
-        ntp_stamps(0, 65_536),
-    );
-    let third = hand(rt, Table::new(), &mut sync, &mut spare, ntp_stamps(0, 1));
-    hand(rt, third, &mut follow_up, &mut spare, ptp_stamps(0));
-    join(rt, &sync, &follow_up);
+fn path(rt: &impl Print) -> io::Result<()> {
+    let mut sync = messages::written(messages::one_step_sync());
+    let mut follow_up = [0; 36];
+    let mut spare = [0; 36];
+    let first = rtm::one_step(&mut sync, stamps::nanoseconds(1_500));
+    print!(rt; "path with clocks of both formats, {}", told(first))?;
+    let second = stamps::until(ntp::Stamp {
+        fraction: 65_536,
+        ..NTP_ZERO
+    });
+    let third = stamps::until(ntp::Stamp {
+        fraction: 1,
+        ..NTP_ZERO
+    });
+    Card::new(rt).handle_stamped(&mut sync, &mut follow_up, second)?;
+    let mut card = Card::new(rt);
+    card.handle_stamped(&mut sync, &mut spare, third)?;
+    card.handle_stamped(&mut follow_up, &mut spare, stamps::nanoseconds(0))?;
+    join(rt, &sync, &follow_up)
 }
 
 // The longest NTP residence waits, goes to another card and is added there.
-fn switched(rt: &impl Print) {
-    print::text(rt, b"longest NTP residence, ");
-    let sync = waits::fields(types::PTP_IPV4, types::SYNC, 1);
-    let longest = stamp::residence_of(ntp_stamps(3, 4_294_967_295));
-    let kept = waits::hand(rt, Table::new(), sync, longest);
-    waits::follow_up(rt, switchovers::switch(rt, kept), types::PTP_IPV4, 1);
-    print::end_line(rt);
+fn switched(rt: &impl Print) -> io::Result<()> {
+    print!(rt; "longest NTP residence, ")?;
+    let longest = stamps::until(ntp::Stamp {
+        seconds: 3,
+        fraction: u32::MAX,
+    });
+    let mut card = Card::new(rt);
+    card.handle(Kind::Sync.fields(1), stamp::residence_of(longest))?;
+    card.switch()?;
+    card.hand(Kind::FollowUp, 1)?;
+    println!(rt; "")
 }
 
-pub(crate) fn run(rt: &impl Print) {
-    path(rt);
-    switched(rt);
+pub(crate) fn run(rt: &impl Print) -> io::Result<()> {
+    path(rt)?;
+    switched(rt)
 }

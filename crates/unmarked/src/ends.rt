@@ -1,89 +1,66 @@
 // The largest pad (document 02, W-205), over several calls: a Follow_Up that has it collects its
 // record all the same, a long record is no largest pad, and joining shows it.
-use crate::{clocks, messages, waits};
-use message::{Fields, Header, layout, types};
-use residence::Residence;
+use crate::answers::told;
+use crate::card::Card;
+use crate::messages::Kind;
+use crate::slots::record;
+use crate::{clocks, messages, stamps};
+use message::Fields;
+use std::io;
 use table::Table;
 
-// 2^63 - 2, -5 and -2^63.
-const ONE_LESS: u64 = 0x7FFF_FFFF_FFFF_FFFE;
+const LARGEST: i64 = scratch_pad::LARGEST;
 
-const MINUS_FIVE: u64 = 0xFFFF_FFFF_FFFF_FFFB;
-
-const SMALLEST: u64 = 0x8000_0000_0000_0000;
-
-// A message of identity 1 with S set and this pad.
-fn fields(ptp_type: u8, pad: i64) -> Fields {
-    let zero = waits::fields(types::PTP_IPV4, ptp_type, 1);
-    let header = Header {
-        message_type: types::PTP_IPV4,
-        pad,
-    };
-    let sub_tlv = zero.sub_tlv;
-    Fields { header, sub_tlv }
-}
-
-fn follow_up(rt: &impl Print, table: Table, pad: i64) -> Table {
-    waits::tell(
-        rt,
-        table,
-        b", Follow_Up ",
-        1,
-        fields(types::FOLLOW_UP, pad),
-        Residence::InvalidStamp,
-    )
+// A message of identity 1 with this pad.
+fn fields(kind: Kind, pad: i64) -> Fields {
+    let mut fields = kind.fields(1);
+    fields.header.pad = pad;
+    fields
 }
 
 // The record is gone once its Follow_Up was added, so that the next Sync waits and no tick counts
 // the first one.
-fn collected(rt: &impl Print) {
-    print::text(rt, b"largest pad");
-    let a = follow_up(rt, waits::sync(rt, Table::new(), 1), scratch_pad::LARGEST);
-    let b = follow_up(rt, waits::tick(rt, a), scratch_pad::LARGEST);
-    let c = waits::tick(rt, waits::sync(rt, b, 1));
-    waits::tick(rt, waits::tick(rt, c));
-    print::end_line(rt);
+fn collected(rt: &impl Print) -> io::Result<()> {
+    print!(rt; "largest pad")?;
+    let follow_up = fields(Kind::FollowUp, LARGEST);
+    let mut card = Card::new(rt);
+    card.hand(Kind::Sync, 1)?;
+    card.hand_fields(Kind::FollowUp, follow_up)?;
+    card.tick()?;
+    card.hand_fields(Kind::FollowUp, follow_up)?;
+    card.hand(Kind::Sync, 1)?;
+    card.ticks(3)?;
+    println!(rt; "")
 }
 
 // A residence of 2^63 - 1 that a caller put into the table.
-fn long_record(rt: &impl Print) {
-    print::text(rt, b"record of 2^63-1 units");
-    let slots = [waits::record(1, 0x7FFF_FFFF_FFFF_FFFF, 3); 16];
-    let table = Table::of(slots, 16);
-    let a = follow_up(rt, table, octets::signed(MINUS_FIVE));
-    follow_up(rt, a, 0);
-    print::end_line(rt);
+fn long_record(rt: &impl Print) -> io::Result<()> {
+    print!(rt; "record of 2^63-1 units")?;
+    let slots = [record(1, 0x7FFF_FFFF_FFFF_FFFF, 3); 16];
+    let mut card = Card::with_table(rt, Table::of(slots, 16));
+    card.hand_fields(Kind::FollowUp, fields(Kind::FollowUp, -5))?;
+    card.hand(Kind::FollowUp, 1)?;
+    println!(rt; "")
 }
 
-fn one_step(rt: &impl Print, sync: &mut [u8], nanoseconds: u32) {
-    print::text(rt, b", ");
-    print::answer(rt, rtm::one_step(sync, clocks::ptp_stamps(nanoseconds)));
-    print::number(rt, b" pad ", octets::read64(sync, layout::SCRATCH_PAD));
+fn one_step(rt: &impl Print, sync: &mut [u8], nanoseconds: u32) -> io::Result<()> {
+    let answer = rtm::one_step(sync, stamps::nanoseconds(nanoseconds));
+    print!(rt; ", {} pad {}", told(answer), reader::pad(sync))
 }
 
 // A Sync that comes to the largest pad, joined with a Follow_Up at the other end of the range.
-fn path(rt: &impl Print) {
-    print::text(rt, b"to the largest pad");
-    let mut sync = [0u8; 36];
-    let mut other = [0u8; 36];
-    messages::write(
-        &mut sync,
-        fields(types::SYNC, octets::signed(ONE_LESS)),
-        b"",
-    );
-    messages::write(
-        &mut other,
-        fields(types::FOLLOW_UP, octets::signed(SMALLEST)),
-        b"",
-    );
-    one_step(rt, &mut sync, 0);
-    one_step(rt, &mut sync, 1);
-    one_step(rt, &mut sync, 1);
-    clocks::join(rt, &sync, &other);
+fn path(rt: &impl Print) -> io::Result<()> {
+    print!(rt; "to the largest pad")?;
+    let mut sync = messages::written(fields(Kind::Sync, LARGEST - 1));
+    let follow_up = messages::written(fields(Kind::FollowUp, i64::MIN));
+    one_step(rt, &mut sync, 0)?;
+    one_step(rt, &mut sync, 1)?;
+    one_step(rt, &mut sync, 1)?;
+    clocks::join(rt, &sync, &follow_up)
 }
 
-pub(crate) fn run(rt: &impl Print) {
-    collected(rt);
-    long_record(rt);
-    path(rt);
+pub(crate) fn run(rt: &impl Print) -> io::Result<()> {
+    collected(rt)?;
+    long_record(rt)?;
+    path(rt)
 }

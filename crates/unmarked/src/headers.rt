@@ -1,53 +1,43 @@
 // The G-ACh header is one byte string: it stands at the start of every message written, and of a
 // created Follow_Up.
-use crate::messages;
-use stamp::Stamps;
-use stamp::ptp::Stamp;
+use crate::answers::told;
+use crate::{messages, stamps};
+use message::{G_ACH_HEADER, types};
+use std::io;
 use table::Table;
 
 // Whether the message begins with the header.
-fn compare(rt: &impl Print, message: &[u8]) {
-    if message.len() < 4 {
-        print::text(rt, b"too short\n");
-        return;
-    }
-    if check::same(&message[0..4], &message::G_ACH_HEADER) {
-        print::text(rt, b"equal\n");
+fn compare(message: &[u8; 36]) -> &'static str {
+    if message.starts_with(&G_ACH_HEADER) {
+        "equal"
     } else {
-        print::text(rt, b"different\n");
+        "different"
     }
 }
 
-fn written(rt: &impl Print, message_type: u16) {
-    print::number(rt, b"header of type ", message_type as u64);
-    print::text(rt, b" as written: ");
-    let mut message = [0u8; 36];
-    messages::write(&mut message, messages::of_type(message_type, -1), b"");
-    compare(rt, &message);
+fn written(rt: &impl Print, message_type: u16) -> io::Result<()> {
+    let message = messages::written(messages::of_type(message_type, -1));
+    println!(rt;
+        "header of type {message_type} as written: {}",
+        compare(&message)
+    )
 }
 
 // The Follow_Up of a Sync with S clear.
-fn created(rt: &impl Print, sync: &mut [u8]) {
-    let stamp = Stamp {
-        seconds: 0,
-        nanoseconds: 0,
-    };
-    let mut output = [0u8; 36];
-    let done = rtm::two_step(Table::new(), sync, &mut output, Stamps::Ptp(stamp, stamp));
-    let answer = done.answer;
-    print::text(rt, b"header of a Follow_Up, ");
-    print::answer(rt, answer);
-    print::text(rt, b": ");
-    compare(rt, &output);
+fn created(rt: &impl Print) -> io::Result<()> {
+    let mut sync = messages::written(messages::one_step_sync());
+    let mut output = [0; 36];
+    let done = rtm::two_step(Table::new(), &mut sync, &mut output, stamps::nanoseconds(0));
+    println!(rt;
+        "header of a Follow_Up, {}: {}",
+        told(done.answer),
+        compare(&output)
+    )
 }
 
-pub(crate) fn run(rt: &impl Print) {
-    written(rt, 1);
-    written(rt, 2);
-    written(rt, 3);
-    written(rt, 4);
-    written(rt, 5);
-    let mut sync = [0u8; 36];
-    messages::write(&mut sync, messages::of_type(3, 0), b"");
-    created(rt, &mut sync);
+pub(crate) fn run(rt: &impl Print) -> io::Result<()> {
+    for message_type in types::NO_PAYLOAD..=types::NTP {
+        written(rt, message_type)?;
+    }
+    created(rt)
 }

@@ -1,41 +1,40 @@
 // The length that a sub-TLV states (document 02, W-202): written, read again, and copied into a
 // created Follow_Up. The packet does not move with it.
+use crate::answers::told;
 use crate::messages;
-use reader::Reading;
-use residence::Residence;
+use message::{Message, layout};
+use std::io;
 use table::Table;
 
-fn read(rt: &impl Print, message: &[u8]) {
+fn read(rt: &impl Print, message: &[u8]) -> io::Result<()> {
     match reader::read(message) {
-        Reading::Plain(_) => print::text(rt, b"length -"),
-        Reading::Ptp(_, sub_tlv) => print::number(rt, b"length ", sub_tlv.length as u64),
-        Reading::Refused(n) => print::refused(rt, n),
-    };
-    print::number(rt, b", packet of ", reader::carried(message).len() as u64);
+        Ok(Message::Plain(_)) => print!(rt; "length -")?,
+        Ok(Message::Ptp(_, sub_tlv)) => print!(rt; "length {}", sub_tlv.length)?,
+        Err(refusal) => print!(rt; "{refusal}")?,
+    }
+    print!(rt; ", packet of {}", reader::carried(message).len())
 }
 
-fn create(rt: &impl Print, sync: &mut [u8]) {
-    let mut output = [0u8; 36];
-    let done = node::handle_two_step(Table::new(), sync, &mut output, Residence::Units(7));
-    let answer = done.answer;
-    print::text(rt, b"; ");
-    print::answer(rt, answer);
-    print::text(rt, b" ");
-    read(rt, &output);
+fn create(rt: &impl Print, sync: &mut [u8]) -> io::Result<()> {
+    let mut output = [0; 36];
+    let done = node::handle_two_step(Table::new(), sync, &mut output, Ok(7));
+    print!(rt; "; {} ", told(done.answer))?;
+    read(rt, &output)
 }
 
 // A Sync that carries a packet, and its Follow_Up.
-fn show(rt: &impl Print, length: u16) {
-    print::number(rt, b"sub-TLV's length ", length as u64);
-    print::text(rt, b": ");
-    let mut message = [0u8; 38];
-    writer::write(&mut message, messages::of_length(3, 0, length), b"\x0A\x0B");
-    read(rt, &message);
-    create(rt, &mut message);
-    print::end_line(rt);
+fn show(rt: &impl Print, length: u16) -> io::Result<()> {
+    print!(rt; "sub-TLV's length {length}: ")?;
+    let mut fields = messages::one_step_sync();
+    fields.sub_tlv.length = length;
+    let mut sync = [0; 38];
+    let _ = writer::write(&mut sync, fields, b"\x0A\x0B");
+    read(rt, &sync)?;
+    create(rt, &mut sync)?;
+    println!(rt; "")
 }
 
-pub(crate) fn run(rt: &impl Print) {
-    show(rt, 16);
-    show(rt, 20);
+pub(crate) fn run(rt: &impl Print) -> io::Result<()> {
+    show(rt, layout::PTP_SUB_TLV_VALUE_LENGTH)?;
+    show(rt, layout::PTP_SUB_TLV_LENGTH)
 }

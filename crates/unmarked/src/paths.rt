@@ -1,7 +1,5 @@
 // A packet on its way from timing node to timing node, by the TTL at each (document 02, W-208).
-ghost use Rattle.std.specs.Prelude.{◌≤◌};
-
-use label_stack::Ttl;
+use std::io;
 
 // Five hops from ingress to egress: 192.0.2.1, an interface of 192.0.2.3, 192.0.2.2, 192.0.2.3 and
 // 192.0.2.1 again.
@@ -11,27 +9,17 @@ const HOPS: [u8; 44] =
 // RTM_SET from egress to ingress: 192.0.2.1 and 192.0.2.3, with other reserved octets.
 const SET: [u8; 16] = *b"\x01\x08\x05\x05\xC0\0\x02\x01\x01\x08\0\0\xC0\0\x02\x03";
 
-// Prints the TTL at a position, and answers how far it goes.
-fn go_from(rt: &impl Print, position: usize) -> usize
-    ensures { result ≤ 255 }
-{
-    match label_stack::next_ttl(&HOPS, &SET, position) {
-        Ttl::Distance(n) => {
-            print::number(rt, b", ttl ", n as u64);
-            n as usize
-        }
-        Ttl::Refused(n) => {
-            print::text(rt, b", ");
-            print::refused(rt, n);
-            0
+pub(crate) fn run(rt: &impl Print) -> io::Result<()> {
+    print!(rt; "from timing node to timing node")?;
+    let mut position = 0;
+    for _ in 0..3 {
+        match label_stack::next_ttl(&HOPS, &SET, position) {
+            Ok(ttl) => {
+                print!(rt; ", ttl {ttl}")?;
+                position += usize::from(ttl);
+            }
+            Err(refusal) => print!(rt; ", {refusal}")?,
         }
     }
-}
-
-pub(crate) fn run(rt: &impl Print) {
-    print::text(rt, b"from timing node to timing node");
-    let first = go_from(rt, 0);
-    let second = go_from(rt, first);
-    go_from(rt, first + second);
-    print::end_line(rt);
+    println!(rt; "")
 }

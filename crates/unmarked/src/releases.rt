@@ -1,79 +1,68 @@
 // Switchovers between cards with the old release, whose images have no kinds, and cards with the new
 // one (document 02, W-211).
-use crate::{delays, messages, switchovers, waits};
-use message::types;
-use refusal::Written;
-use table::Table;
+use crate::card::{Card, LARGEST};
+use crate::messages::Kind;
+use crate::switchovers::OLD_IMAGE;
+use std::io;
 
-// Tells whether the octets are those of the image that came from the old release.
-fn compare(rt: &impl Print, octets: &[u8]) {
-    if octets::same(octets, &switchovers::OLD_IMAGE) {
-        print::text(rt, b", the same octets");
-    } else {
-        print::text(rt, b", other octets");
+// Converts an image for a card with the old release, and has that load it. Tells whether its octets
+// are those of the image that came from the old release.
+fn load_old(rt: &impl Print, image: &[u8]) -> io::Result<()> {
+    let mut buffer = [0xAA; LARGEST];
+    match switchover::to_old(image, &mut buffer) {
+        Ok(size) => {
+            let old = &buffer[..size.min(LARGEST)];
+            let octets = if old == OLD_IMAGE.as_slice() {
+                "the same"
+            } else {
+                "other"
+            };
+            print!(rt; ", in the old form {size}, {octets} octets")?;
+            Card::new(rt).load(old)
+        }
+        Err(refusal) => print!(rt; ", to the old form {refusal}"),
     }
 }
 
-// Converts an image for a card with the old release, and has that load it.
-fn load_old(rt: &impl Print, image: &[u8]) {
-    let mut old = [0xAAu8; switchovers::LARGEST];
-    match switchover::to_old(image, &mut old) {
-        Written::Size(n) => {
-            print::number(rt, b", in the old form ", n as u64);
-            compare(rt, messages::front(&old, n));
-            switchovers::load(rt, Table::new(), messages::front(&old, n));
-        }
-        Written::Refused(n) => {
-            print::number(rt, b", to the old form refused ", n as u64);
-        }
-    }
-}
-
-// Goes back with the table's image.
-fn go_back(rt: &impl Print, table: Table) {
-    let mut image = [0xAAu8; switchovers::LARGEST];
-    match table.write(&mut image) {
-        Written::Size(n) => {
-            print::number(rt, b", image of ", n as u64);
-            load_old(rt, messages::front(&image, n));
-        }
-        Written::Refused(n) => {
-            print::number(rt, b", image refused ", n as u64);
-        }
+// Goes back with the image of the card's table.
+fn go_back<R: Print>(card: &Card<R>) -> io::Result<()> {
+    match card.image(&mut [0xAA; LARGEST])? {
+        Some(image) => load_old(card.rt, image),
+        None => Ok(()),
     }
 }
 
 // Over with an image of the old form, and back before a Delay_Req comes, while it waits, and after its
 // Delay_Resp.
-fn over_and_back(rt: &impl Print) {
-    print::text(rt, b"from the old release");
-    let a = switchovers::load(rt, Table::new(), &switchovers::OLD_IMAGE);
-    go_back(rt, a);
-    let b = delays::request(rt, waits::tick(rt, a), 1);
-    go_back(rt, b);
-    let c = delays::response(rt, b, 1);
-    go_back(rt, c);
-    waits::follow_up(rt, c, types::PTP_IPV4, 1);
-    print::end_line(rt);
+fn over_and_back(rt: &impl Print) -> io::Result<()> {
+    print!(rt; "from the old release")?;
+    let mut card = Card::new(rt);
+    card.load(&OLD_IMAGE)?;
+    go_back(&card)?;
+    card.tick()?;
+    card.hand(Kind::DelayReq, 1)?;
+    go_back(&card)?;
+    card.hand(Kind::DelayResp, 1)?;
+    go_back(&card)?;
+    card.hand(Kind::FollowUp, 1)?;
+    println!(rt; "")
 }
 
 // There and back from the old form: the same octets.
-fn there_and_back(rt: &impl Print) {
-    print::text(rt, b"there and back");
-    let mut image = [0xAAu8; switchovers::LARGEST];
-    match switchover::to_new(&switchovers::OLD_IMAGE, &mut image) {
-        Written::Size(n) => {
-            print::number(rt, b", in the new form ", n as u64);
-            load_old(rt, messages::front(&image, n));
+fn there_and_back(rt: &impl Print) -> io::Result<()> {
+    print!(rt; "there and back")?;
+    let mut new = [0xAA; LARGEST];
+    match switchover::to_new(&OLD_IMAGE, &mut new) {
+        Ok(size) => {
+            print!(rt; ", in the new form {size}")?;
+            load_old(rt, &new[..size.min(LARGEST)])?;
         }
-        Written::Refused(n) => {
-            print::number(rt, b", to the new form refused ", n as u64);
-        }
+        Err(refusal) => print!(rt; ", to the new form {refusal}")?,
     }
-    print::end_line(rt);
+    println!(rt; "")
 }
 
-pub(crate) fn run(rt: &impl Print) {
-    over_and_back(rt);
-    there_and_back(rt);
+pub(crate) fn run(rt: &impl Print) -> io::Result<()> {
+    over_and_back(rt)?;
+    there_and_back(rt)
 }

@@ -1,7 +1,19 @@
 // Residences between PTP stamps in nanoseconds, without and with a borrow. A case of `vectors` has
 // them in pad units.
+use refusal::Refusal;
 use stamp::ptp;
-use stamp::ptp::{Elapsed, Stamp};
+use stamp::ptp::Stamp;
+use std::{fmt, io};
+
+// A stamp, as a line shows it.
+#[derive(Clone, Copy)]
+struct Shown(Stamp);
+
+impl fmt::Display for Shown {
+    fn fmt<W: fmt::Write>(&self, f: &mut fmt::Formatter<W>) -> fmt::Result {
+        write!(f, "{} s {}", self.0.seconds, self.0.nanoseconds)
+    }
+}
 
 fn at(seconds: u32, nanoseconds: u32) -> Stamp {
     Stamp {
@@ -10,40 +22,29 @@ fn at(seconds: u32, nanoseconds: u32) -> Stamp {
     }
 }
 
-fn print_stamp(rt: &impl Print, word: &[u8], seconds: u32, nanoseconds: u32) {
-    print::number(rt, word, seconds as u64);
-    print::number(rt, b" s ", nanoseconds as u64);
-}
-
-fn between(rt: &impl Print, entry: Stamp, exit: Stamp) {
-    print_stamp(rt, b"residence from ", entry.seconds, entry.nanoseconds);
-    print_stamp(rt, b" to ", exit.seconds, exit.nanoseconds);
-    print::text(rt, b": ");
+fn between(rt: &impl Print, entry: Stamp, exit: Stamp) -> io::Result<()> {
+    print!(rt; "residence from {} to {}: ", Shown(entry), Shown(exit))?;
     match ptp::nanoseconds_between(entry, exit) {
-        Elapsed::Nanoseconds(n) => {
-            print::number(rt, b"", n);
-            print::text(rt, b" ns");
-        }
-        Elapsed::InvalidStamp => {
-            print::refused(rt, 9);
-        }
-        Elapsed::TooLong => {
-            print::refused(rt, 10);
-        }
+        Ok(nanoseconds) => println!(rt; "{nanoseconds} ns"),
+        Err(error) => println!(rt; "{}", Refusal::from(error)),
     }
-    print::end_line(rt);
 }
 
-pub(crate) fn run(rt: &impl Print) {
-    // equal nanoseconds: no borrow
-    between(rt, at(5, 7), at(5, 7));
-    between(rt, at(5, 7), at(8, 7));
-    between(rt, at(5, 7), at(9, 7));
-    // a borrow, then one across the wrap of the seconds
-    between(rt, at(10, 999_999_000), at(11, 500));
-    between(rt, at(4_294_967_295, 999_999_999), at(0, 0));
-    // a borrow from four seconds: the longest; from five, and from none: 10
-    between(rt, at(5, 1), at(9, 0));
-    between(rt, at(5, 1), at(10, 0));
-    between(rt, at(5, 1), at(5, 0));
+pub(crate) fn run(rt: &impl Print) -> io::Result<()> {
+    for (entry, exit) in [
+        // equal nanoseconds: no borrow
+        (at(5, 7), at(5, 7)),
+        (at(5, 7), at(8, 7)),
+        (at(5, 7), at(9, 7)),
+        // a borrow, then one across the wrap of the seconds
+        (at(10, 999_999_000), at(11, 500)),
+        (at(u32::MAX, 999_999_999), at(0, 0)),
+        // a borrow from four seconds: the longest; from five, and from none: 10
+        (at(5, 1), at(9, 0)),
+        (at(5, 1), at(10, 0)),
+        (at(5, 1), at(5, 0)),
+    ] {
+        between(rt, entry, exit)?;
+    }
+    Ok(())
 }

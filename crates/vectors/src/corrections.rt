@@ -1,26 +1,20 @@
 // Operation 27: the packet of a pair corrected at the egress.
-use crate::format;
-use corrector::Correction;
+use crate::case;
+use crate::shown::Octets;
+use print::Told;
+use std::io;
 
-// The pair and the place are in the body, the copy in a part of the buffer.
-fn correct_in(rt: &impl Print, body: &[u8], copy: &mut [u8]) {
+pub(crate) fn run(rt: &impl Print, body: &[u8]) -> io::Result<()> {
     let place = octets::read64(body, 0) as usize;
-    let pair = format::after(body, 8);
-    print::text(rt, b"correct ");
-    match corrector::correct(
-        format::counted(pair),
-        format::counted(format::behind(pair)),
-        place,
-        copy,
-    ) {
-        Correction::Field(_) => print::text(rt, b"done"),
-        Correction::Refused(n) => print::refused(rt, n),
-    };
-    format::hex(rt, b" copy ", copy);
-}
-
-pub(crate) fn run(rt: &impl Print, body: &[u8]) {
-    let mut buffer = format::output();
-    let packet = format::counted(format::behind(format::behind(format::after(body, 8))));
-    correct_in(rt, body, format::copied(&mut buffer, packet));
+    let (sync, rest) = case::counted(case::after(body, 8));
+    let (follow_up, rest) = case::counted(rest);
+    let (packet, _) = case::counted(rest);
+    let mut buffer = [0; case::MOST];
+    let copy = case::copied(&mut buffer, packet);
+    let answer = corrector::correct(sync, follow_up, place, copy);
+    println!(rt;
+        "correct {} copy {}",
+        Told(answer.map(|_| "done")),
+        Octets(copy)
+    )
 }

@@ -1,22 +1,15 @@
 // Operation 7: a Sync and a Follow_Up joined at the egress.
-use crate::format;
-use egress::Joined;
+use crate::case;
+use crate::shown::{Named, Octets};
+use print::Told;
+use std::io;
 
-fn join<'a>(rt: &impl Print, sync: &'a [u8], follow_up: &'a [u8]) {
-    print::text(rt, b"join ");
-    match egress::join(sync, follow_up) {
-        Joined::Total(total) => format::signed(rt, b"total ", total),
-        Joined::Refused(n) => {
-            print::refused(rt, n);
-        }
-    }
-    format::hex(rt, b" packet ", egress::shown(sync, follow_up));
-}
-
-pub(crate) fn run(rt: &impl Print, body: &[u8]) {
-    join(
-        rt,
-        format::counted(body),
-        format::counted(format::behind(body)),
-    );
+pub(crate) fn run(rt: &impl Print, body: &[u8]) -> io::Result<()> {
+    let (sync, rest) = case::counted(body);
+    let (follow_up, _) = case::counted(rest);
+    let told = Told(egress::join(sync, follow_up).map(|total| Named("total", total)));
+    println!(rt;
+        "join {told} packet {}",
+        Octets(egress::shown(sync, follow_up))
+    )
 }

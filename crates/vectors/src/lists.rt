@@ -1,25 +1,17 @@
 // Operations 8 and 9: the entries of an address list.
-use crate::format;
-use rtm_set::{Count, Lookup};
+use crate::case;
+use crate::shown::Octets;
+use print::Told;
+use std::io;
 
-pub(crate) fn run_count(rt: &impl Print, body: &[u8]) {
-    print::text(rt, b"count ");
-    match rtm_set::count(format::counted(body)) {
-        Count::Entries(n) => print::number(rt, b"", n as u64),
-        Count::Refused(n) => print::refused(rt, n),
-    };
+pub(crate) fn run_count(rt: &impl Print, body: &[u8]) -> io::Result<()> {
+    let (list, _) = case::counted(body);
+    println!(rt; "count {}", Told(rtm_set::count(list)))
 }
 
-fn entry(rt: &impl Print, list: &[u8], place: usize) {
-    print::text(rt, b"entry ");
-    match rtm_set::lookup(list, place) {
-        Lookup::Present => print::text(rt, b"at"),
-        Lookup::Refused(n) => print::refused(rt, n),
-    };
-    format::hex(rt, b" ", rtm_set::entry(list, place));
-}
-
-pub(crate) fn run_entry(rt: &impl Print, body: &[u8]) {
+pub(crate) fn run_entry(rt: &impl Print, body: &[u8]) -> io::Result<()> {
     let place = octets::read16(body, 0) as usize;
-    entry(rt, format::counted(format::after(body, 2)), place);
+    let (list, _) = case::counted(case::after(body, 2));
+    let told = Told(rtm_set::lookup(list, place).map(|_| "at"));
+    println!(rt; "entry {told} {}", Octets(rtm_set::entry(list, place)))
 }

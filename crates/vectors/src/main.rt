@@ -4,30 +4,38 @@
 #![tactic(auto)]
 
 mod captures;
+mod case;
 mod corrections;
-mod format;
 mod images;
 mod joins;
 mod labels;
 mod lists;
 mod one_step;
+mod outputs;
 mod plans;
 mod read;
 mod requests;
 mod residences;
+mod shown;
 mod stamps;
 mod tables;
 mod tick;
 mod two_step;
 mod write;
 
-fn run(rt: &impl Print, operation: u8, body: &[u8]) {
+use images::To;
+use stamps::Format;
+use std::io;
+
+// The operations have their numbers from the file of cases. Each takes the runtime and a body, and
+// nothing else: a struct of the two would only rename them.
+fn run(rt: &impl Print, operation: u8, body: &[u8]) -> io::Result<()> {
     match operation {
         1 => read::run(rt, body),
         2 => write::run(rt, body),
-        3 => residences::run(rt, body),
-        4 => one_step::run(rt, body),
-        5 => two_step::run(rt, body),
+        3 => residences::run(rt, Format::Ptp, body),
+        4 => one_step::run(rt, Format::Ptp, body),
+        5 => two_step::run(rt, Format::Ptp, body),
         6 => tick::run(rt, body),
         7 => joins::run(rt, body),
         8 => lists::run_count(rt, body),
@@ -36,9 +44,9 @@ fn run(rt: &impl Print, operation: u8, body: &[u8]) {
         11 => images::run_load(rt, body),
         12 => read::run_length(rt, body),
         13 => write::run_length(rt, body),
-        14 => residences::run_ntp(rt, body),
-        15 => one_step::run_ntp(rt, body),
-        16 => two_step::run_ntp(rt, body),
+        14 => residences::run(rt, Format::Ntp, body),
+        15 => one_step::run(rt, Format::Ntp, body),
+        16 => two_step::run(rt, Format::Ntp, body),
         17 => requests::run_add(rt, body),
         18 => requests::run_collect(rt, body),
         19 => images::run_replace(rt, body),
@@ -46,33 +54,33 @@ fn run(rt: &impl Print, operation: u8, body: &[u8]) {
         21 => labels::run_search(rt, body),
         22 => labels::run_write(rt, body),
         23 => captures::run(rt, body),
-        24 => images::run_convert(rt, true, body),
-        25 => images::run_convert(rt, false, body),
+        24 => images::run_convert(rt, To::New, body),
+        25 => images::run_convert(rt, To::Old, body),
         26 => plans::run(rt, body),
         27 => corrections::run(rt, body),
-        _ => return,
+        _ => Ok(()),
     }
-    print::end_line(rt);
 }
 
 // Runs the next case. Answers false where there is none.
-fn run_next(rt: &(impl Input + Print)) -> bool {
-    let mut head = [0u8; 3];
+fn run_next(rt: &(impl Input + Print)) -> io::Result<bool> {
+    let mut head = [0; 3];
     if input::read(rt, &mut head, 3) < 3 {
-        return false;
+        return Ok(false);
     }
-    let mut body = [0u8; 65536];
-    let n = input::read(rt, &mut body, octets::read16(&head, 1) as usize);
-    run(rt, head[0], &body[..n]);
-    true
+    let [operation, high, low] = head;
+    let mut body = [0; case::MOST];
+    let size = u16::from_be_bytes([high, low]) as usize;
+    let n = input::read(rt, &mut body, size);
+    run(rt, operation, &body[..n])?;
+    Ok(true)
 }
 
+// A line that cannot be written ends the run, and is not told.
 fn main(rt: HostRuntime) {
-    let mut left: usize = 65536;
-    while 0 < left {
-        if !run_next(&rt) {
-            return;
+    for _ in 0..65536 {
+        if !run_next(&rt).unwrap_or(false) {
+            break;
         }
-        left -= 1;
     }
 }

@@ -1,20 +1,24 @@
 // Operation 26: the plan of a path.
-use crate::format;
-use hops::{End, Planned};
+use hops::End;
+use print::Told;
+use std::{fmt, io};
 
-fn print_end(rt: &impl Print, end: End) {
-    format::signed(rt, b"sync ", end.sync_pad);
-    format::signed(rt, b" follow-up ", end.follow_up_pad);
-    print::number(rt, b" s ", end.two_step as u64);
-    print::number(rt, b" exists ", end.exists as u64);
+#[derive(Clone, Copy)]
+struct Shown(End);
+
+impl fmt::Display for Shown {
+    fn fmt<W: fmt::Write>(&self, f: &mut fmt::Formatter<W>) -> fmt::Result {
+        let End {
+            sync_pad,
+            follow_up_pad,
+            two_step,
+            exists,
+        } = self.0;
+        write!(f, "sync {sync_pad} follow-up {follow_up_pad}")?;
+        write!(f, " s {} exists {}", two_step as u8, exists as u8)
+    }
 }
 
-pub(crate) fn run(rt: &impl Print, body: &[u8]) {
-    print::text(rt, b"plan ");
-    match planner::plan_octets(body) {
-        Planned::Shows(end) => print_end(rt, end),
-        Planned::Refused(n) => {
-            print::refused(rt, n);
-        }
-    }
+pub(crate) fn run(rt: &impl Print, body: &[u8]) -> io::Result<()> {
+    println!(rt; "plan {}", Told(planner::plan_octets(body).map(Shown)))
 }

@@ -1,57 +1,66 @@
 // Operations 1 and 12: what a message says, and the length that its sub-TLV states.
-use crate::format;
-use message::{Header, SubTlv};
-use reader::Reading;
+use crate::case;
+use crate::shown::Octets;
+use message::{Header, Message, SubTlv};
+use print::Told;
+use refusal::Refusal;
+use std::{fmt, io};
 
-pub(crate) fn run(rt: &impl Print, body: &[u8]) {
-    let message = format::counted(body);
-    print::text(rt, b"read ");
-    show(rt, message);
+// A message's fields, "-" for each of a sub-TLV where there is none, and the packet that it carries.
+#[derive(Clone, Copy)]
+struct Shown<'a> {
+    message: Message,
+    carried: &'a [u8],
 }
 
-pub(crate) fn run_length(rt: &impl Print, body: &[u8]) {
-    let message = format::counted(body);
-    print::text(rt, b"read-length ");
-    show(rt, message);
-    print_length(rt, reader::read(message));
+// That, and the length.
+#[derive(Clone, Copy)]
+struct WithLength<'a>(Shown<'a>);
+
+impl fmt::Display for Shown<'_> {
+    fn fmt<W: fmt::Write>(&self, f: &mut fmt::Formatter<W>) -> fmt::Result {
+        let Header { message_type, pad } = self.message.header();
+        write!(f, "type {message_type} pad {pad}")?;
+        match self.message {
+            Message::Plain(_) => write!(f, " s - kind - port - seq -")?,
+            Message::Ptp(_, sub_tlv) => {
+                let SubTlv {
+                    two_step,
+                    ptp_type,
+                    clock,
+                    port,
+                    sequence,
+                    ..
+                } = sub_tlv;
+                write!(f, " s {} kind {ptp_type}", two_step as u8)?;
+                write!(f, " port {clock:016x}{port:04x} seq {sequence}")?
+            }
+        }
+        write!(f, " carried {}", Octets(self.carried))
+    }
 }
 
-fn show(rt: &impl Print, message: &[u8]) {
-    match reader::read(message) {
-        Reading::Plain(header) => {
-            print_header(rt, header);
-            print::text(rt, b" s - kind - port - seq -");
-            format::hex(rt, b" carried ", reader::carried(message));
-        }
-        Reading::Ptp(header, sub_tlv) => {
-            print_header(rt, header);
-            print_sub_tlv(rt, sub_tlv);
-            format::hex(rt, b" carried ", reader::carried(message));
-        }
-        Reading::Refused(n) => {
-            print::refused(rt, n);
+impl fmt::Display for WithLength<'_> {
+    fn fmt<W: fmt::Write>(&self, f: &mut fmt::Formatter<W>) -> fmt::Result {
+        match self.0.message {
+            Message::Plain(_) => write!(f, "{} length -", self.0),
+            Message::Ptp(_, sub_tlv) => write!(f, "{} length {}", self.0, sub_tlv.length),
         }
     }
 }
 
-fn print_header(rt: &impl Print, header: Header) {
-    print::number(rt, b"type ", header.message_type as u64);
-    format::signed(rt, b" pad ", header.pad);
+fn read(body: &[u8]) -> Result<Shown, Refusal> {
+    let (octets, _) = case::counted(body);
+    Ok(Shown {
+        message: reader::read(octets)?,
+        carried: reader::carried(octets),
+    })
 }
 
-fn print_sub_tlv(rt: &impl Print, sub_tlv: SubTlv) {
-    print::number(rt, b" s ", sub_tlv.two_step as u64);
-    print::number(rt, b" kind ", sub_tlv.ptp_type as u64);
-    print::text(rt, b" port ");
-    format::digits(rt, sub_tlv.clock, 16);
-    format::digits(rt, sub_tlv.port as u64, 4);
-    print::number(rt, b" seq ", sub_tlv.sequence as u64);
+pub(crate) fn run(rt: &impl Print, body: &[u8]) -> io::Result<()> {
+    println!(rt; "read {}", Told(read(body)))
 }
 
-fn print_length(rt: &impl Print, reading: Reading) {
-    match reading {
-        Reading::Plain(_) => print::text(rt, b" length -"),
-        Reading::Ptp(_, sub_tlv) => print::number(rt, b" length ", sub_tlv.length as u64),
-        Reading::Refused(_) => 0,
-    };
+pub(crate) fn run_length(rt: &impl Print, body: &[u8]) -> io::Result<()> {
+    println!(rt; "read-length {}", Told(read(body).map(WithLength)))
 }

@@ -1,33 +1,28 @@
 // Operations 17, 18 and 20: a record added to a table, one collected from it, and how many wait there.
-use crate::{format, tables};
-use table::{Entry, Found};
+use crate::shown::Named;
+use crate::{case, tables};
+use print::Told;
+use std::io;
+use table::{Entered, Taken};
 
 // Where the residence stands in the body, behind the table and the identity.
 const RESIDENCE: usize = tables::SIZE + 13;
 
-pub(crate) fn run_add(rt: &impl Print, body: &[u8]) {
-    let identity = tables::identity(format::after(body, tables::SIZE));
-    let entered = tables::read(body).add(identity, octets::read64(body, RESIDENCE));
-    let answer = entered.answer;
-    print::text(rt, b"add ");
-    match answer {
-        Entry::Waiting => print::text(rt, b"waiting"),
-        Entry::Refused(n) => print::refused(rt, n),
-    };
-    tables::show(rt, entered.table);
+pub(crate) fn run_add(rt: &impl Print, body: &[u8]) -> io::Result<()> {
+    let identity = tables::identity(case::after(body, tables::SIZE));
+    let residence = octets::read64(body, RESIDENCE);
+    let Entered { table, answer } = tables::read(body).add(identity, residence);
+    let told = Told(answer.map(|()| "waiting"));
+    println!(rt; "add {told} table {}", tables::Shown(table))
 }
 
-pub(crate) fn run_collect(rt: &impl Print, body: &[u8]) {
-    let taken = tables::read(body).collect(tables::identity(format::after(body, tables::SIZE)));
-    let answer = taken.answer;
-    print::text(rt, b"collect ");
-    match answer {
-        Found::Residence(units) => print::number(rt, b"units ", units),
-        Found::Refused(n) => print::refused(rt, n),
-    };
-    tables::show(rt, taken.table);
+pub(crate) fn run_collect(rt: &impl Print, body: &[u8]) -> io::Result<()> {
+    let identity = tables::identity(case::after(body, tables::SIZE));
+    let Taken { table, answer } = tables::read(body).collect(identity);
+    let told = Told(answer.map(|units| Named("units", units)));
+    println!(rt; "collect {told} table {}", tables::Shown(table))
 }
 
-pub(crate) fn run_waiting(rt: &impl Print, body: &[u8]) {
-    print::number(rt, b"waiting ", tables::read(body).waiting() as u64);
+pub(crate) fn run_waiting(rt: &impl Print, body: &[u8]) -> io::Result<()> {
+    println!(rt; "waiting {}", tables::read(body).waiting())
 }

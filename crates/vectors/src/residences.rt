@@ -1,22 +1,12 @@
 // Operations 3 and 14: the residence between two stamps.
-use crate::stamps;
-use residence::Residence;
-use stamp::Stamps;
+use crate::shown::Named;
+use crate::stamps::Format;
+use print::Told;
+use refusal::Refusal;
+use std::io;
 
-fn show(rt: &impl Print, stamps: Stamps) {
-    match stamp::residence_of(stamps) {
-        Residence::Units(n) => print::number(rt, b"units ", n),
-        Residence::InvalidStamp => print::refused(rt, refusal::INVALID_STAMP),
-        Residence::TooLong => print::refused(rt, refusal::TOO_LONG_RESIDENCE),
-    };
-}
-
-pub(crate) fn run(rt: &impl Print, body: &[u8]) {
-    print::text(rt, b"residence ");
-    show(rt, stamps::read_ptp(body));
-}
-
-pub(crate) fn run_ntp(rt: &impl Print, body: &[u8]) {
-    print::text(rt, b"residence-ntp ");
-    show(rt, stamps::read_ntp(body));
+pub(crate) fn run(rt: &impl Print, format: Format, body: &[u8]) -> io::Result<()> {
+    let residence = stamp::residence_of(format.read(body)).map_err(Refusal::from);
+    let told = Told(residence.map(|units| Named("units", units)));
+    println!(rt; "residence{format} {told}")
 }

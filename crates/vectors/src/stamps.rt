@@ -1,28 +1,42 @@
 // The stamps of a case: 16 octets, the entry's seconds and nanoseconds (NTP: seconds and fraction),
 // then the exit's, 4 octets each.
-use crate::format;
 use stamp::{Stamps, ntp, ptp};
+use std::fmt;
 
-const EXIT: usize = 8;
+// The format of a case's stamps. The name of an operation has "-ntp" behind it for NTP.
+#[derive(Clone, Copy)]
+pub(crate) enum Format {
+    Ptp,
+    Ntp,
+}
 
-fn ptp_stamp(s: &[u8]) -> ptp::Stamp {
-    ptp::Stamp {
-        seconds: octets::read32(s, 0),
-        nanoseconds: octets::read32(s, 4),
+impl Format {
+    // The stamps at the start of s.
+    pub(crate) fn read(self, s: &[u8]) -> Stamps {
+        match self {
+            Format::Ptp => {
+                let stamp = |at| ptp::Stamp {
+                    seconds: octets::read32(s, at),
+                    nanoseconds: octets::read32(s, at + 4),
+                };
+                Stamps::Ptp(stamp(0), stamp(8))
+            }
+            Format::Ntp => {
+                let stamp = |at| ntp::Stamp {
+                    seconds: octets::read32(s, at),
+                    fraction: octets::read32(s, at + 4),
+                };
+                Stamps::Ntp(stamp(0), stamp(8))
+            }
+        }
     }
 }
 
-fn ntp_stamp(s: &[u8]) -> ntp::Stamp {
-    ntp::Stamp {
-        seconds: octets::read32(s, 0),
-        fraction: octets::read32(s, 4),
+impl fmt::Display for Format {
+    fn fmt<W: fmt::Write>(&self, f: &mut fmt::Formatter<W>) -> fmt::Result {
+        f.write_str(match self {
+            Format::Ptp => "",
+            Format::Ntp => "-ntp",
+        })
     }
-}
-
-pub(crate) fn read_ptp(s: &[u8]) -> Stamps {
-    Stamps::Ptp(ptp_stamp(s), ptp_stamp(format::after(s, EXIT)))
-}
-
-pub(crate) fn read_ntp(s: &[u8]) -> Stamps {
-    Stamps::Ntp(ntp_stamp(s), ntp_stamp(format::after(s, EXIT)))
 }

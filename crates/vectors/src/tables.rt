@@ -1,16 +1,21 @@
 // A table in a case and in a line: its number (1), and 16 slots of 22 octets, each kind (1: 0 Sync, 1
 // Delay), port identity (clock identity 8, port number 2), sequence (2), residence in pad units (8)
 // and wait (1).
-use crate::format;
+use crate::case;
 use records::{Identity, Record, RecordKind};
+use std::{array, fmt};
 use table::Table;
 
 // The octets of a table.
-pub(crate) const SIZE: usize = SLOTS + 352;
+pub(crate) const SIZE: usize = SLOTS + 16 * SLOT_SIZE;
 
 const SLOTS: usize = 1;
 
 const SLOT_SIZE: usize = 22;
+
+// A table, in hexadecimal.
+#[derive(Clone, Copy)]
+pub(crate) struct Shown(pub(crate) Table);
 
 fn kind(number: u8) -> RecordKind {
     match number {
@@ -30,55 +35,43 @@ pub(crate) fn identity(s: &[u8]) -> Identity {
 }
 
 fn slot(s: &[u8]) -> Record {
+    let Identity {
+        kind,
+        clock,
+        port,
+        sequence,
+    } = identity(s);
     Record {
-        kind: kind(octets::read8(s, 0)),
-        clock: octets::read64(s, 1),
-        port: octets::read16(s, 9),
-        sequence: octets::read16(s, 11),
+        kind,
+        clock,
+        port,
+        sequence,
         residence: octets::read64(s, 13),
         wait: octets::read8(s, 21),
     }
 }
 
-// The slots at the start of s.
-fn read_slots(s: &[u8]) -> [Record; 16] {
-    let first = slot(s);
-    let mut slots = [first; 16];
-    let mut i: usize = 1;
-    while i < 16 {
-        slots[i] = slot(format::after(s, i * SLOT_SIZE));
-        i += 1;
-    }
-    slots
-}
-
 // The table at the start of s.
 pub(crate) fn read(s: &[u8]) -> Table {
-    let number = octets::read8(s, 0);
-    let slots = read_slots(format::after(s, SLOTS));
-    Table::of(slots, number)
+    let slots = array::from_fn(|i| slot(case::after(s, SLOTS + i * SLOT_SIZE)));
+    Table::of(slots, octets::read8(s, 0))
 }
 
-fn print_slot(rt: &impl Print, slot: Record) {
-    let kind = slot.kind;
-    format::digits(rt, kind.number() as u64, 2);
-    format::digits(rt, slot.clock, 16);
-    format::digits(rt, slot.port as u64, 4);
-    format::digits(rt, slot.sequence as u64, 4);
-    format::digits(rt, slot.residence, 16);
-    format::digits(rt, slot.wait as u64, 2);
-}
-
-fn print_slots(rt: &impl Print, slots: [Record; 16]) {
-    let mut i: usize = 0;
-    while i < 16 {
-        print_slot(rt, slots[i]);
-        i += 1;
+impl fmt::Display for Shown {
+    fn fmt<W: fmt::Write>(&self, f: &mut fmt::Formatter<W>) -> fmt::Result {
+        write!(f, "{:02x}", self.0.number())?;
+        for slot in self.0.slots() {
+            let Record {
+                kind,
+                clock,
+                port,
+                sequence,
+                residence,
+                wait,
+            } = slot;
+            write!(f, "{:02x}{clock:016x}{port:04x}", kind.number())?;
+            write!(f, "{sequence:04x}{residence:016x}{wait:02x}")?;
+        }
+        Ok(())
     }
-}
-
-pub(crate) fn show(rt: &impl Print, table: Table) {
-    print::text(rt, b" table ");
-    format::digits(rt, table.number() as u64, 2);
-    print_slots(rt, table.slots());
 }

@@ -1,8 +1,9 @@
 // Operation 6: a tick.
 use crate::tables;
+use std::io;
+use table::Ticked;
 
-pub(crate) fn run(rt: &impl Print, body: &[u8]) {
-    let ticked = tables::read(body).tick();
-    print::number(rt, b"tick ", ticked.emptied as u64);
-    tables::show(rt, ticked.table);
+pub(crate) fn run(rt: &impl Print, body: &[u8]) -> io::Result<()> {
+    let Ticked { table, emptied } = tables::read(body).tick();
+    println!(rt; "tick {emptied} table {}", tables::Shown(table))
 }

@@ -1,6 +1,10 @@
 // Operations 5 and 16: a message at a two-step node.
-use crate::{format, stamps, tables};
-use stamp::Stamps;
+use crate::shown::Octets;
+use crate::stamps::Format;
+use crate::{case, outputs, tables};
+use node::Done;
+use print::{Told, Word};
+use std::io;
 
 // The fields of the body behind the table.
 const STAMPS: usize = tables::SIZE;
@@ -9,35 +13,16 @@ const ROOM: usize = tables::SIZE + 16;
 
 const MESSAGE: usize = tables::SIZE + 18;
 
-fn run_in(rt: &impl Print, message: &mut [u8], out: &mut [u8], stamps: Stamps, body: &[u8]) {
-    let done = rtm::two_step(tables::read(body), message, out, stamps);
-    let answer = done.answer;
-    print::answer(rt, answer);
-    format::hex(rt, b" message ", message);
-    format::hex(rt, b" out ", out);
-    tables::show(rt, done.table);
-}
-
-fn run_with(rt: &impl Print, stamps: Stamps, body: &[u8]) {
-    let mut buffer = [0u8; 65536];
-    let mut out = format::output();
-    let room = octets::read16(body, ROOM) as usize;
-    let message = format::counted(format::after(body, MESSAGE));
-    run_in(
-        rt,
-        format::copied(&mut buffer, message),
-        &mut out[0..room],
-        stamps,
-        body,
-    );
-}
-
-pub(crate) fn run(rt: &impl Print, body: &[u8]) {
-    print::text(rt, b"two-step ");
-    run_with(rt, stamps::read_ptp(format::after(body, STAMPS)), body);
-}
-
-pub(crate) fn run_ntp(rt: &impl Print, body: &[u8]) {
-    print::text(rt, b"two-step-ntp ");
-    run_with(rt, stamps::read_ntp(format::after(body, STAMPS)), body);
+pub(crate) fn run(rt: &impl Print, format: Format, body: &[u8]) -> io::Result<()> {
+    let stamps = format.read(case::after(body, STAMPS));
+    let room = octets::read16(body, ROOM);
+    let (message, _) = case::counted(case::after(body, MESSAGE));
+    let mut buffer = [0; case::MOST];
+    let message = case::copied(&mut buffer, message);
+    let mut out = [outputs::UNWRITTEN; case::MOST];
+    let out = &mut out[..room as usize];
+    let Done { table, answer } = rtm::two_step(tables::read(body), message, out, stamps);
+    let told = Told(answer.map(Word));
+    let (message, out, table) = (Octets(message), Octets(out), tables::Shown(table));
+    println!(rt; "two-step{format} {told} message {message} out {out} table {table}")
 }

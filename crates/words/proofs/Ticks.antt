@@ -6,13 +6,13 @@ use mathlib.Core.Bool.{Bool, true, false, cond}
 use mathlib.Core.List.{List, [], ◌∷◌}
 use native.Mathlib.Numerals.{add-one}
 use native.Mathlib.Omega.{arith}
-use borrow.Author.Tests.{ne_eqb, eqb-true, eqb-false}
+use borrow.Author.Tests.{eqb-true, eqb-false}
 use lib.Dec.{eqb}
-use lib.ListN.{length, get_or, set, drop, length-set, drop_of_length-le}
+use lib.ListN.{length, get_or, drop, length-set, drop_of_length-le}
 use lib.Seq.{get_or-set_same, get_or-set_other, drop-cons}
 use Rattle.records.specs.declared.Record.{Record}
 use Rattle.records.specs.Slots.{zeros, aged, aged_by, ticked, emptied}
-use Rattle.words.specs.Words.{decoded, slot_at, slots_from, slots_of, empty_slot, aged_words, age_slot, aged_to}
+use Rattle.words.specs.Words.{decoded, slot_at, slots_from, slots_of, aged_words, age_slot, aged_to}
 use Rattle.words.proofs.Fields.{decoded-zeros, decoded_older}
 use Rattle.words.proofs.Places.{sixteen, slot_at_lem, three, put_kept, put_same, length-put}
 
@@ -125,23 +125,3 @@ module _ (w₀ w : List ℕ) (n i : ℕ) (s : Swept w₀ w n i) where
       let d : drop i (slots_of w₀) ≡ [] = drop_of_length-le (slots_of w₀) {i = i} (omega (arith, sixteen w₀)) in
       let e : i ≡ 16 = omega arith in
       (s.2 ∙ ap (λ (j : ℕ). aged_to j w₀) e, omega (arith, rw d at s.3))
-
--- a slot whose wait is 1 is emptied, and of any other slot the wait alone is lowered, or stays at 0
-pub last_aged : (w : List ℕ) (k : ℕ) → get_or w (k * 3 + 17) 0 % 256 ≡ 1 → empty_slot w k ≡ age_slot w k
-last_aged w k e = sym (ap (λ (n : ℕ). aged_words n w k) e)
-
-set_own : (w : List ℕ) (i : ℕ) → set w i (get_or w i 0) ≡ w
-set_own [] i = refl
-set_own (x ∷ w) zero = refl
-set_own (x ∷ w) (suc i) = ap (λ (v : List ℕ). x ∷ v) (set_own w i)
-
-pub lowered_aged :
-    (w : List ℕ) (k b : ℕ) → (get_or w (k * 3 + 17) 0 % 256 ≡ 1 → ⊥)
-    → b ≡ cond (eqb (get_or w (k * 3 + 17) 0 % 256) 0) (get_or w (k * 3 + 17) 0) (get_or w (k * 3 + 17) 0 - 1)
-    → set w (k * 3 + 17) b ≡ age_slot w k
-lowered_aged w k b h e = ap (set w (k * 3 + 17)) e ∙ go (get_or w (k * 3 + 17) 0 % 256) h
-  where
-    go : (n : ℕ) → (n ≡ 1 → ⊥) → set w (k * 3 + 17) (cond (eqb n 0) (get_or w (k * 3 + 17) 0) (get_or w (k * 3 + 17) 0 - 1)) ≡ aged_words n w k
-    go zero f = set_own w (k * 3 + 17)
-    go (suc zero) f = absurd (f refl)
-    go (suc (suc n)) f = rw (ne_eqb (suc (suc n)) 0 (λ e. omega arith))

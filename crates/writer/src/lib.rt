@@ -4,50 +4,44 @@
 
 ghost use Rattle.std.specs.Prelude.{◌≡◌, ◌+◌, ◌≤◌, ◌++◌, length, drop};
 ghost use Rattle.message.specs.Write.{header_octets, sub_tlv_header, flag_octets, sub_tlv_octets, plain_octets, ptp_octets, fit_of, size_of, write_of};
-ghost use Rattle.refusal.specs.Written.{written_answer, written};
+ghost use Rattle.refusal.specs.Refusal.{answer_of};
+ghost use Rattle.refusal.specs.Written.{written};
 
 use message::{Fields, Header, SubTlv, is_ptp, is_sub_tlv_length, layout, types};
-pub use refusal::Written;
+use refusal::Refusal;
 
 // The size of a message whose carried packet starts at `start`: refusals 2 and 12.
-fn fit(start: usize, carried: usize, room: usize) -> Written
+fn fit(start: usize, carried: usize, room: usize) -> Result<usize, Refusal>
     requires { start ≤ 2048 }
-    ensures { written_answer result ≡ fit_of (start + carried) room }
+    ensures { answer_of result ≡ fit_of (start + carried) room }
 {
-    if layout::LARGEST - start < carried {
-        return Written::Refused(refusal::TOO_LONG);
+    if carried > layout::LARGEST - start {
+        return Err(Refusal::TooLong);
     }
-    if room < start + carried {
-        return Written::Refused(refusal::OUTPUT_TOO_SMALL);
+    if start + carried > room {
+        return Err(Refusal::OutputTooSmall);
     }
-    Written::Size(start + carried)
+    Ok(start + carried)
 }
 
 // The message's size: refusals 6, 17, 23 and 7, then those of `fit`.
-fn size(message_type: u16, sub_tlv: SubTlv, carried: usize, room: usize) -> Written
-    ensures { written_answer result ≡ size_of message_type sub_tlv carried room }
+fn size(message_type: u16, sub_tlv: SubTlv, carried: usize, room: usize) -> Result<usize, Refusal>
+    ensures { answer_of result ≡ size_of message_type sub_tlv carried room }
 {
-    if message_type < types::NO_PAYLOAD {
-        return Written::Refused(refusal::TYPE);
-    }
-    if types::NTP < message_type {
-        return Written::Refused(refusal::TYPE);
+    if !matches!(message_type, types::NO_PAYLOAD..=types::NTP) {
+        return Err(Refusal::Type);
     }
     if is_ptp(message_type) {
-        let ptp_type = sub_tlv.ptp_type;
-        let known_length = is_sub_tlv_length(sub_tlv.length);
-        if types::LAST_PTP_TYPE < ptp_type {
-            return Written::Refused(refusal::PTP_TYPE);
+        if sub_tlv.ptp_type > types::LAST_PTP_TYPE {
+            return Err(Refusal::PtpType);
         }
-        if !known_length {
-            return Written::Refused(refusal::SUB_TLV_LENGTH);
+        if !is_sub_tlv_length(sub_tlv.length) {
+            return Err(Refusal::SubTlvLength);
         }
         return fit(layout::CARRIED, carried, room);
     }
-    if message_type == types::NO_PAYLOAD {
-        if 0 < carried {
-            return Written::Refused(refusal::VALUE_SIZE);
-        }
+    if message_type == types::NO_PAYLOAD && carried > 0 {
+        return Err(Refusal::ValueSize);
     }
     fit(layout::VALUE, carried, room)
 }
@@ -96,11 +90,7 @@ fn sub_tlv_header(length: u16) -> [u8; 4]
 fn flag_octets(two_step: bool, ptp_type: u8) -> [u8; 4]
     ensures { result ≡ flag_octets two_step ptp_type }
 {
-    if two_step {
-        [0x80, 0, 0, ptp_type]
-    } else {
-        [0, 0, 0, ptp_type]
-    }
+    [if two_step { 0x80 } else { 0 }, 0, 0, ptp_type]
 }
 
 // A message of types 2 to 4.
@@ -108,10 +98,12 @@ fn put_ptp(out: &mut [u8], fields: Fields, carried: &[u8])
     requires { (36 + length carried.now ≤ length out.old) × (length carried.now ≤ 2012) }
     ensures { out.new ≡ ptp_octets fields carried.now ++ drop (36 + length carried.now) out.old }
 {
-    let header = fields.header;
-    let sub_tlv = fields.sub_tlv;
-    put_header(out, header, (layout::SUB_TLV_SIZE + carried.len()) as u16);
-    put_sub_tlv(&mut out[layout::VALUE..], sub_tlv);
+    put_header(
+        out,
+        fields.header,
+        (layout::SUB_TLV_SIZE + carried.len()) as u16,
+    );
+    put_sub_tlv(&mut out[layout::VALUE..], fields.sub_tlv);
     octets::put(out, layout::CARRIED, carried);
 }
 
@@ -124,22 +116,21 @@ fn put_plain(out: &mut [u8], header: Header, carried: &[u8])
     octets::put(out, layout::VALUE, carried);
 }
 
-// Writes a message at the start of the output, which stays as it came beyond the size and on
-// refusal. The order of refusals is 6, 17, 23, 7, 2, 12.
-pub fn write(out: &mut [u8], fields: Fields, carried: &[u8]) -> Written
+/// Writes a message at the start of the output, which stays as it came beyond the size and on
+/// refusal, and answers the size. The order of refusals is 6, 17, 23, 7, 2, 12.
+pub fn write(out: &mut [u8], fields: Fields, carried: &[u8]) -> Result<usize, Refusal>
     ensures { written result out.new ≡ write_of fields carried.now out.old }
 {
-    let header = fields.header;
-    let sub_tlv = fields.sub_tlv;
-    match size(header.message_type, sub_tlv, carried.len(), out.len()) {
-        Written::Size(n) => {
-            if is_ptp(header.message_type) {
-                put_ptp(out, fields, carried);
-            } else {
-                put_plain(out, header, carried);
-            }
-            Written::Size(n)
-        }
-        Written::Refused(n) => Written::Refused(n),
+    let size = size(
+        fields.header.message_type,
+        fields.sub_tlv,
+        carried.len(),
+        out.len(),
+    )?;
+    if is_ptp(fields.header.message_type) {
+        put_ptp(out, fields, carried);
+    } else {
+        put_plain(out, fields.header, carried);
     }
+    Ok(size)
 }

@@ -1,56 +1,20 @@
--- `join` meets its contract: `check` says of each whether it is read, `are_pair` whether they are joined, and the pads are those of the headers.
-use Rattle.std.proofs.Common.{◌≡◌, ℕ, ℤ, List, true, sym, ap, ◌∙◌, w64, rules, SFits, to_z, of_z}
-use Rattle.std.proofs.Math.Facts.{to_z-of_z}
-use Rattle.refusal.specs.Answer.{Answer, value, refused, refusal_in}
-use Rattle.refusal.proofs.Answers.{refused_by}
-use Rattle.message.specs.Read.{header, read_of, content_of}
-use Rattle.message.proofs.Content.{readable}
+-- `join` meets its contract: of two messages that are a pair, the pads are added that stand in their headers.
+use Rattle.std.proofs.Common.{◌≡◌, ℕ, List, true, ℤ, sym, ◌∙◌, rules, w64, FitsSigned}
+use Rattle.std.proofs.lemmas.Int.{to_z-of_z}
+use Rattle.refusal.specs.Answer.{Answer, value}
+use Rattle.message.specs.declared.fields.Message.{Message}
+use Rattle.message.specs.Read.{header_in, read_of}
 use Rattle.scratch_pad.specs.Sum.{pad_sum}
 use Rattle.egress.specs.Join.{is_pair, join_by, join_of}
-use Rattle.egress.proofs.Pairs.{pad_in_lem}
 use Rattle.egress.proofs.join.Goals as goal
 
--- joining is on what the two say
-both : (s f : List ℕ) → refusal_in (read_of s) ≡ 0 → refusal_in (read_of f) ≡ 0 → join_of s f ≡ join_by (value (content_of s)) (value (content_of f))
-both s f hs hf =
-    let e = readable s hs in
-    let g = readable f hf in
-    λ i. join_by (e i) (g i)
+joined : (s f : List ℕ) (m k : Message) (a : Answer ℤ) → read_of s ≡ value m → read_of f ≡ value k → is_pair m k ≡ true → a ≡ pad_sum (header_in m).pad (header_in k).pad → a ≡ join_of s f
+joined s f m k a es ef pair e = e ∙ sym ((λ i. join_by (es i) (ef i)) ∙ rw pair)
 
--- a pair's answer is the callee's sum, of the pads as they are passed on
-summed :
-    (s f : List ℕ) (z y : ℤ) (a : Answer ℤ)
-    → refusal_in (read_of s) ≡ 0
-    → refusal_in (read_of f) ≡ 0
-    → is_pair (content_of s) (content_of f) ≡ true
-    → SFits w64 z
-    → SFits w64 y
-    → z ≡ (header s).pad
-    → y ≡ (header f).pad
-    → a ≡ pad_sum (to_z w64 (of_z w64 z)) (to_z w64 (of_z w64 y))
-    → a ≡ join_of s f
-summed s f z y a hs hf pair fz fy ez ey e =
-    let k = to_z-of_z {w = w64} fz ∙ ez ∙ sym (pad_in_lem s) in
-    let l = to_z-of_z {w = w64} fy ∙ ey ∙ sym (pad_in_lem f) in
-    sym (both s f hs hf ∙ rw pair (sym (e ∙ (λ i. pad_sum (k i) (l i)))))
-
-pub returns-then-n-ne0-2 : goal.returns-then-n-ne0-2
-returns-then-n-ne0-2 c =
-    let e = readable c.args.sync.now (sym c.check-n.ensures ∙ c.if-n-ne0.false) in
-    let g = refused_by (read_of c.args.follow_up.now) c.check-n-2.result (sym c.check-n-2.ensures) c.if-n-ne0-2.true in
-    sym (λ i. join_by (e i) (g i))
-
-pub returns-then-not-are_pair : goal.returns-then-not-are_pair
-returns-then-not-are_pair c =
-    sym (both c.args.sync.now c.args.follow_up.now (sym c.check-n.ensures ∙ c.if-n-ne0.false) (sym c.check-n-2.ensures ∙ c.if-n-ne0-2.false) ∙ rw (sym c.are_pair.ensures ∙ c.if-not-are_pair.true))
-
-pub returns-in-Of : goal.returns-in-Of
-returns-in-Of c =
-    let z : ℤ = c.in-Of.total in
-    let fits : SFits w64 z = search rules in
-    ap value (to_z-of_z {w = w64} fits)
-    ∙ summed c.args.sync.now c.args.follow_up.now c.pad.result c.pad-2.result (value z) (sym c.check-n.ensures ∙ c.if-n-ne0.false) (sym c.check-n-2.ensures ∙ c.if-n-ne0-2.false) (sym c.are_pair.ensures ∙ c.if-not-are_pair.false) (record { sfits = c.pad.type_inv }) (record { sfits = c.pad-2.type_inv }) c.pad.ensures c.pad-2.ensures c.in-Of.ensures
-
-pub returns-in-Refused : goal.returns-in-Refused
-returns-in-Refused c =
-    summed c.args.sync.now c.args.follow_up.now c.pad.result c.pad-2.result (refused c.in-Refused.n) (sym c.check-n.ensures ∙ c.if-n-ne0.false) (sym c.check-n-2.ensures ∙ c.if-n-ne0-2.false) (sym c.are_pair.ensures ∙ c.if-not-are_pair.false) (record { sfits = c.pad.type_inv }) (record { sfits = c.pad-2.type_inv }) c.pad.ensures c.pad-2.ensures c.in-Refused.ensures
+pub returns : goal.returns
+returns c =
+    let z = c.header.result.pad in
+    let y = c.header-2.result.pad in
+    let fz : FitsSigned w64 z = search rules in
+    let fy : FitsSigned w64 y = search rules in
+    joined c.args.sync.now c.args.follow_up.now _ _ _ (sym c.in_ok-sync.ensures) (sym c.in_ok-follow_up.ensures) (sym c.are_pair.ensures ∙ c.if-not-are_pair.false) (simp to_z-of_z at c.add_pads.ensures ∙ (λ i. pad_sum (c.header.ensures i).pad (c.header-2.ensures i).pad))

@@ -1,6 +1,6 @@
 -- The residence handed on is that of the stamps.
 use Rattle.std.proofs.Common.{ap, ◌∙◌}
-use Rattle.residence.specs.declared.Residence.{Residence}
+use Rattle.residence.specs.Residence.{Residence}
 use Rattle.stamp.specs.Stamps.{residence_of}
 use Rattle.rtm.proofs.Runs.{same_residence}
 use Rattle.rules.specs.Rules.{call_of}

@@ -1,7 +1,7 @@
 -- Where the entry lies is told.
 use Rattle.std.proofs.Common.{ℕ, List, ap}
 use Rattle.refusal.specs.Answer.{Answer, value, and_then}
-use Rattle.rtm_set.specs.Entries.{Part}
+use Rattle.rtm_set.specs.declared.part.Part.{Part}
 use Rattle.bunpennant.specs.C.{Told, tell, put_part}
 use Rattle.bunpennant.proofs.addresses.rtm_address_entry.Goals as goal
 
@@ -9,6 +9,6 @@ use Rattle.bunpennant.proofs.addresses.rtm_address_entry.Goals as goal
 abbrev telling : List ℕ → Answer Part → Told (List ℕ)
 telling w a = tell w (and_then a (λ p. value (put_part w p.offset p.length)))
 
-pub returns-in-At : goal.returns-in-At
+pub returns-in-Ok : goal.returns-in-Ok
 unfolding put_part
-returns-in-At c = ap (telling c.args.entry.now) c.in-At.ensures
+returns-in-Ok c = ap (telling c.args.entry.now) c.in-Ok.ensures

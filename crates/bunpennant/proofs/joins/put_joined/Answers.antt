@@ -11,5 +11,5 @@ unfolding put_joined
 returns c =
     let m = c.args.message.now in
     let e : packet_at (length m) (read_of m) ≡ 36 = c.requires.0 in
-    let z = c.unsigned.ensures ∙ ap (of_z w64) (to_z-of_z w64 c.args.total c.ranges.total) in
+    let z = c.cast_unsigned.ensures ∙ ap (of_z w64) (to_z-of_z w64 c.args.total c.ranges.total) in
     λ i. slice_set (slice_set (slice_set (slice_set c.args.joined.now 0 (z i)) 1 c.args.which) 2 (sym e i)) 3 (sym (packet_length m e) i)

@@ -2,9 +2,12 @@
 use Rattle.std.proofs.Common.{ℕ, ◌-◌, ◌≤◌, ◌≡◌, refl, sym, ap, ◌∙◌, Bool, true, false, List, arith, length, slice_set}
 use lib.ListN.{length-drop}
 use Rattle.refusal.specs.Answer.{Answer, value, and_then, refusal_in}
-use Rattle.message.specs.Read.{Message, header, is_ptp, read_of, packet_at, carried_of}
+use Rattle.refusal.proofs.Answers.{then_passed}
+use Rattle.message.specs.declared.fields.Message.{Message}
+use Rattle.message.specs.Read.{header, is_ptp, read_of, packet_at, carried_of}
 use Rattle.message.proofs.Sound.{header_sound}
 use Rattle.message.proofs.Content.{header_passed, header_readable, readable, content_ptp, content_plain, value_whole}
+use Rattle.node.proofs.Replies.{unchecked}
 use Rattle.bunpennant.specs.C.{Told, told, tell, put_part, packet_part}
 use Rattle.bunpennant.proofs.messages.rtm_carried.Goals as goal
 
@@ -26,12 +29,17 @@ rest s e =
     let w = packet-within s e in
     (omega arith, omega arith)
 
-pub returns : goal.returns
+pub returns-in-Err : goal.returns-in-Err
+returns-in-Err c =
+    let s = c.args.message.now in
+    ap (λ (k : ℕ). told k c.args.packet.now) c.number.ensures ∙ ap (telling c.args.packet.now s) (unchecked (read_of s) _ c.in-Err.ensures)
+
+pub returns-in-Ok : goal.returns-in-Ok
 unfolding put_part
-returns c =
+returns-in-Ok c =
     let s = c.args.message.now in
     let w = c.args.packet.now in
-    let r : refusal_in (read_of s) ≡ 0 = omega (arith, c.check-n.ensures) in
+    let r : refusal_in (read_of s) ≡ 0 = then_passed (read_of s) (λ m. value tt) (ap refusal_in (sym c.in-Ok.ensures)) in
     let n = ap length c.carried-length.ensures in
     let o = ap (λ (x : ℕ). length s - x) n ∙ (rest s r).1 in
     ap (told 0) (λ i. slice_set (slice_set w 0 (o i)) 1 (n i)) ∙ sym (ap (telling w s) (readable s r))

@@ -3,7 +3,7 @@ use Rattle.std.proofs.Common.{◌≡◌, ℕ, ◌+◌, ◌-◌, Bool, true, fals
 use Rattle.rtm_set.specs.Entries.{entries_in, Sound}
 use Rattle.rtm_set.proofs.Rest.{Front}
 use Rattle.label_stack.specs.Ttl.{same_address, occurs}
-use Rattle.label_stack.proofs.Walk.{entry_at, entry_ends, part_at, part_length, sound_behind, entries_behind}
+use Rattle.label_stack.proofs.Walk.{part_at, here, sound_behind, entries_behind}
 use Rattle.label_stack.proofs.search.occurs.Goals as goal
 
 -- where the walk stands, the entry there decides, or the rest
@@ -20,40 +20,28 @@ either hop s i n b sound same f e =
     ∙ ap (λ (x : Bool). x || occurs hop (entries_in (drop (i + n) s))) (sym (e ∙ ap (same_address hop) (part_at s i n)))
 
 pub slice_bounds-same_address-end : goal.slice_bounds-same_address-end
-slice_bounds-same_address-end c =
-    let s = c.args.set.now in
-    let i = c.loop-at.at in
-    let n = get_or s (i + 1) 0 in
-    let f = entry_at s i c.loop-at.invariant.0 c.loop-at-test.true in
-    omega (arith, (entry_ends s i n c.loop-at-test.true f).0)
+slice_bounds-same_address-end c = omega (arith, (here c.args.set.now c.loop-at.at c.loop-at.invariant.0 c.loop-at-test.true).ends)
 
 pub same_address-requires : goal.same_address-requires
-same_address-requires c =
-    let s = c.args.set.now in
-    let i = c.loop-at.at in
-    let f = entry_at s i c.loop-at.invariant.0 c.loop-at-test.true in
-    (c.requires.0, part_length s i (get_or s (i + 1) 0) f)
+same_address-requires c = (c.requires.0, (here c.args.set.now c.loop-at.at c.loop-at.invariant.0 c.loop-at-test.true).long)
 
 pub returns-then-same_address : goal.returns-then-same_address
 returns-then-same_address c =
     let s = c.args.set.now in
     let i = c.loop-at.at in
-    let f = entry_at s i c.loop-at.invariant.0 c.loop-at-test.true in
-    sym (either c.args.hop.now s i (get_or s (i + 1) 0) true c.loop-at.invariant.0 c.loop-at.invariant.1 f (sym c.if-same_address.true ∙ c.same_address.ensures))
+    let sound = c.loop-at.invariant.0 in
+    sym (either c.args.hop.now s i (get_or s (i + 1) 0) true sound c.loop-at.invariant.1 (here s i sound c.loop-at-test.true).front (sym c.if-same_address.true ∙ c.same_address.ensures))
 
 pub loop-at-smaller : goal.loop-at-smaller
-loop-at-smaller c =
-    let s = c.args.set.now in
-    let i = c.loop-at.at in
-    let f = entry_at s i c.loop-at.invariant.0 c.loop-at-test.true in
-    omega (arith, f.some)
+loop-at-smaller c = omega (arith, (here c.args.set.now c.loop-at.at c.loop-at.invariant.0 c.loop-at-test.true).least)
 
 pub loop-at-preserved : goal.loop-at-preserved
 loop-at-preserved c =
     let s = c.args.set.now in
     let i = c.loop-at.at in
     let n = get_or s (i + 1) 0 in
-    let f = entry_at s i c.loop-at.invariant.0 c.loop-at-test.true in (
-      sound_behind s i n c.loop-at.invariant.0 f,
-      either c.args.hop.now s i n false c.loop-at.invariant.0 c.loop-at.invariant.1 f (sym c.if-same_address.false ∙ c.same_address.ensures),
+    let sound = c.loop-at.invariant.0 in
+    let f = (here s i sound c.loop-at-test.true).front in (
+      sound_behind s i n sound f,
+      either c.args.hop.now s i n false sound c.loop-at.invariant.1 f (sym c.if-same_address.false ∙ c.same_address.ensures),
     )

@@ -10,6 +10,6 @@ pub returns : goal.returns
 returns c =
     let w = c.args.words.now in
     let m : length w ≡ 64 = omega arith in
-    let d = fill_done w c.loop-i.words c.args.slots c.loop-i.i c.loop-i.invariant (omega arith) in
+    let d = fill_done w c.loop-k.words c.args.slots c.loop-k.k c.loop-k.invariant (omega arith) in
     ap (left (value 0)) (c.set_number.ensures ∙ ap (λ (v : List ℕ). with_number v c.args.number) d.0)
     ∙ filled_means c.args.slots c.args.number w m (omega arith, d.1) (omega arith)

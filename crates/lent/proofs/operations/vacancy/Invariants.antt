@@ -1,5 +1,4 @@
 -- Before each turn no slot below `i` is empty.
-use Rattle.std.proofs.Common.{◌-◌}
 use Rattle.records.specs.Slots.{empty}
 use Rattle.words.specs.Words.{slots_of}
 use Rattle.lent.proofs.Search.{Searched}
@@ -7,6 +6,3 @@ use Rattle.lent.proofs.operations.vacancy.Given as goal
 
 abbrev pub invariant-loop-i : goal.invariant-loop-i
 invariant-loop-i l = Searched empty (slots_of l.words) l.i
-
-abbrev pub decreases-loop-i : goal.decreases-loop-i
-decreases-loop-i l = 16 - l.i

@@ -10,11 +10,11 @@ use Rattle.rerun.proofs.running.after_two_step.Goals as goal
 
 pub with_call-requires : goal.with_call-requires
 with_call-requires c =
-    let p = c.requires.0 in
-    let x = c.residence_in-residence.result in
+    let p = c.requires in
+    let x = c.residence-residence.result in
     let o = own_below x in
     let e = c.units_of.ensures in
-    let call = two_step_call c.message_in.result.now lent_output x in
+    let call = two_step_call c.message.result.now lent_output x in
     let k = answer_below (rules.request call) (slots_of c.args.words.now) p.below in
     let d = ap (λ (y : Made). y.collected) c.two_step-told.ensures in
     (omega (arith, p.counts), omega (arith, p.sum), omega (arith, p.sum))

@@ -4,4 +4,4 @@ use Rattle.report.proofs.Rooms.{at_most}
 use Rattle.rerun.proofs.tally.one_more.Goals as goal
 
 pub overflow_add-more : goal.overflow_add-more
-overflow_add-more c = omega (arith, at_most c.args.refused c.args.n)
+overflow_add-more c = omega (arith, at_most c.args.refused c.from-at.result)

@@ -1,5 +1,5 @@
 -- Before each turn what is still to be written is the bodies from number `k` on.
-use Rattle.std.proofs.Common.{◌-◌, ◌≤◌, length}
+use Rattle.std.proofs.Common.{◌≤◌, length}
 use Rattle.octets.specs.Octets.{put}
 use Rattle.image.specs.Layout.{first_body}
 use Rattle.switchover.proofs.Offsets.{offset}
@@ -9,8 +9,7 @@ use Rattle.switchover.proofs.bodies.put_bodies.Given as goal
 
 abbrev pub invariant-loop-k : goal.invariant-loop-k
 invariant-loop-k l =
-    (l.k ≤ l.n) ×
-    Writing (length l.initial.out) (put l.initial.out (first_body l.form l.n) (bodies_from l.form l.records l.n 0)) l.out (offset l.form l.n l.k) (bodies_from l.form l.records l.n l.k)
-
-abbrev pub decreases-loop-k : goal.decreases-loop-k
-decreases-loop-k l = l.n - l.k
+    (l.k ≤ length l.records) ×
+    Writing (length l.initial.out) (put l.initial.out (first_body l.contents.form l.contents.count) (bodies_from l.contents.form l.records 0)) l.out
+    (offset l.contents.form l.contents.count l.k)
+    (bodies_from l.contents.form l.records l.k)

@@ -6,5 +6,5 @@ use Rattle.switchover.proofs.bodies.read_bodies.Goals as goal
 pub loop-k-preserved : goal.loop-k-preserved
 loop-k-preserved c =
     let a = c.args in
-    read_on a.form a.image.now a.n c.loop-k.records c.loop-k.k c.loop-k.invariant c.record_at.result (omega arith)
+    read_on a.contents.form a.image.now a.contents.count c.loop-k.records c.loop-k.k c.loop-k.invariant c.record_at.result (omega arith)
     (rw c.offset.ensures.0 at c.record_at.ensures)

@@ -1,6 +1,0 @@
--- One slot less is left after each turn.
-use Rattle.std.proofs.Common.{◌-◌}
-use Rattle.vectors.proofs.tables.print_slots.Given as goal
-
-abbrev pub decreases-loop-i : goal.decreases-loop-i
-decreases-loop-i g l = 16 - l.i
