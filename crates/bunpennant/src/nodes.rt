@@ -24,7 +24,7 @@ const WAITING: u8 = 67;
 
 const ADDED: u8 = 68;
 
-// C's code of an answer.
+// C's code of an answer: its header has the numbers.
 fn code_of(answer: Result<Handled, Refusal>) -> u8
     ensures { result ≡ code_of (answer_of answer) }
 {

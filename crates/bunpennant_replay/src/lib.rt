@@ -11,7 +11,7 @@ ghost use Rattle.bunpennant_replay.specs.Reports.{report_words};
 
 use report::{Range, Report};
 
-// The words of a report.
+// The words of a report, in the order of C's struct. No From: report and array are of other crates.
 fn words_of(report: Report) -> [u64; 26]
     ensures { result ≡ report_words report }
 {

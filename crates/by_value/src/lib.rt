@@ -1,5 +1,6 @@
 // For bench/ alone: calls as Rattle code makes them, many in one function: with the table by value,
-// the form that document 01 gives, and with the table lent.
+// the form that document 01 gives, and with the table lent. Count, messages and
+// output are parameters of their own, as bench/ hands them over.
 #![tactic(auto)]
 
 ghost use Rattle.std.specs.Prelude.{◌≤◌};

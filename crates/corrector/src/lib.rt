@@ -1,5 +1,6 @@
 // Correcting the packet at the egress (document 02, W-214): the total of a joined pair is added to
-// the correctionField of the PTPv2 packet that it carried.
+// the correctionField of the PTPv2 packet that it carried. Its parameters stand each by itself, as C
+// hands them over.
 #![tactic(auto)]
 
 ghost use Rattle.std.specs.Prelude.{◌≡◌, ◌+◌, ◌≤◌, length};

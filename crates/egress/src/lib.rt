@@ -1,5 +1,5 @@
 // Joining at the egress (document 01, Writing and joining): the total of a Sync's pad and its
-// Follow_Up's, and the packet shown.
+// Follow_Up's, and the packet shown. The two messages are parameters of their own, as C hands them over.
 #![tactic(auto)]
 
 ghost use Rattle.std.specs.Prelude.{◌≡◌};
@@ -22,7 +22,7 @@ pub fn join(sync: &[u8], follow_up: &[u8]) -> Result<i64, Refusal>
     scratch_pad::add_pads(sync.header().pad, follow_up.header().pad)
 }
 
-// A Sync with S set and a Follow_Up, of one Type and one exchange.
+// A Sync with S set and a Follow_Up, of one Type and one exchange. The return leaves a `let .. else`.
 fn are_pair(sync: Message, follow_up: Message) -> bool
     ensures { result ≡ is_pair sync follow_up }
 {

@@ -20,7 +20,7 @@ pub const TWO_STEP: u8 = 2;
 pub const MOST: usize = 255;
 
 /// What a path starts with: the Sync's pad and S, and the pad of its Follow_Up, which counts only where
-/// S is set.
+/// S is set. C hands the pad in beside S, so that it is no Option.
 #[derive(Clone, Copy)]
 pub struct Start {
     pub sync_pad: i64,

@@ -7,7 +7,8 @@ ghost use Rattle.label_stack.specs.Ttl.{same_address, occurs, searched, ttl_of};
 use refusal::Refusal;
 use rtm_set::layout;
 
-// Whether two entries have the same type and address; octets 2 and 3 are not looked at.
+// Whether two entries have the same type and address; octets 2 and 3 are not looked at, so that
+// it is no `==`.
 fn same_address(hop: &[u8], entry: &[u8]) -> bool
     requires { (4 ≤ length hop.now) × (4 ≤ length entry.now) }
     ensures { result ≡ same_address hop.now entry.now }

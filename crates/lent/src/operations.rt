@@ -148,7 +148,8 @@ pub fn collect(words: &mut [u64; 64], identity: Identity) -> Result<u64, Refusal
     Ok(residence)
 }
 
-// A slot after a tick, and whether it was emptied.
+// A slot after a tick, and whether it was emptied. It also writes, so that it is no test in one
+// expression.
 fn age(words: &mut [u64; 64], slot: Slot) -> bool
     ensures value { result ≡ eqb (get_or words.old (slot.number * 3 + 17) 0 % 256) 1 }
     ensures words_after { words.new ≡ age_slot words.old slot.number }

@@ -7,6 +7,7 @@ use crate::{layout, types};
 /// The header's fields.
 #[derive(Clone, Copy, Debug, PartialEq, Eq, Hash)]
 pub struct Header {
+    /// The Type. Any number: one that is no Type is answered (6), so that it is no enum.
     pub message_type: u16,
     /// The Scratch Pad: nanoseconds times 65,536, signed.
     pub pad: i64,
@@ -20,6 +21,7 @@ pub struct SubTlv {
     pub length: u16,
     /// The S bit.
     pub two_step: bool,
+    /// The PTPType. Any number: one above 15 is answered (17).
     pub ptp_type: u8,
     pub clock: u64,
     pub port: u16,

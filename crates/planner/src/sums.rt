@@ -27,7 +27,7 @@ pub(crate) fn none() -> Sums
     }
 }
 
-// One hop more: refusals 29 and 10.
+// One hop more: refusals 29 and 10. The mode is C's number.
 pub(crate) fn step(sums: Sums, mode: u8, residence: u64) -> Result<Sums, Refusal>
     requires { Small sums }
     ensures { answer_of result ≡ step_of sums (hop_of mode residence) }

@@ -49,7 +49,8 @@ pub fn refused(rt: &impl Print, n: u8) -> usize
     number(rt, b"refused ", n as u64)
 }
 
-/// Prints what a node answered, and answers the refusal's number, or 0.
+/// Prints what a node answered, and answers the refusal's number, or 0. The number is what it promises,
+/// so that it is no Result.
 pub fn answer(rt: &impl Print, answer: Result<Handled, Refusal>) -> u8
     ensures { result ≡ refusal_in (answer_of answer) }
 {

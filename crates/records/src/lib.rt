@@ -41,7 +41,7 @@ pub struct Record {
 }
 
 impl RecordKind {
-    /// Its number: 0 Sync, 1 Delay.
+    /// Its number in images and in a table's packed words: 0 Sync, 1 Delay.
     pub fn number(self) -> u8
         ensures { result ≡ kind_number self }
     {
@@ -50,7 +50,8 @@ impl RecordKind {
 }
 
 impl Identity {
-    /// The two are the same: kind, clock identity, port number and sequence.
+    /// The two are the same: kind, clock identity, port number and sequence. It is `==`, with the
+    /// definition's word in its contract.
     #[tactic(auto, unfolding(crate::specs::Slots::same))]
     pub fn equals(self, other: Identity) -> bool
         ensures { result ≡ same self other }

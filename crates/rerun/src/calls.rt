@@ -60,7 +60,7 @@ impl<'a> Recorded<'a> {
     }
 }
 
-// A residence in pad units; 0 where a node takes none.
+// A residence in pad units; 0 where a node takes none. No From: it is a number of another crate's Result.
 pub(crate) fn units_of(residence: Residence) -> u64
     ensures { result ≡ units_of (accepted_of residence) }
 {

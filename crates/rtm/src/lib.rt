@@ -1,6 +1,6 @@
 // Node calls as a router makes them: a message with the stamps of its entry and its exit (document
 // 01, What a node does; document 02, W-203). They are the calls of crate `node` with the residence
-// between the stamps, whatever their format.
+// between the stamps, whatever their format. Its parameters stand each by itself, as C lends them.
 #![tactic(auto)]
 
 ghost use Rattle.std.specs.Prelude.{◌≡◌, ℕ, List};

@@ -1,7 +1,8 @@
 // Prints the line of each message of standard input. Before each stand two octets, its size.
 #![tactic(auto)]
 
-// Prints the line of the next message. Answers false where there is none.
+// Prints the line of the next message. Answers false where there is none. It also prints, so that it is
+// no test in one expression.
 fn show_next(rt: &(impl Input + Print)) -> bool {
     let mut size = [0u8; 2];
     if input::read(rt, &mut size, 2) < 2 {

@@ -1,4 +1,5 @@
 // The residence between two PTP truncated timestamps (RFC 8877, 4.3; document 01, Stamps and the stay).
+// Entry and exit are parameters of their own: any two stamps are good.
 ghost use Rattle.std.specs.Prelude.{◌≡◌, ◌≤◌};
 ghost use Rattle.residence.specs.Residence.{residence_answer};
 ghost use Rattle.stamp.specs.Ptp.{seconds_difference, nanoseconds_of, residence_of};

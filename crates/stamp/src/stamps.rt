@@ -13,7 +13,8 @@ pub enum Stamps {
     Ntp(ntp::Stamp, ntp::Stamp),
 }
 
-/// The residence between the two, as it goes on to a node: nothing behind it knows the format.
+/// The residence between the two, as it goes on to a node: nothing behind it knows the format. A
+/// function, since its answer is a Result, for which there is no From.
 pub fn residence_of(stamps: Stamps) -> Residence
     ensures { residence_answer result ≡ residence_of stamps }
 {

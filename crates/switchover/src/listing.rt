@@ -55,7 +55,7 @@ fn is_sound(slot: Record) -> bool
     has_right_wait(slot) && slot.residence < residence::LIMIT
 }
 
-// The identity differs from those of the records.
+// The identity differs (`!=`, in the definition's word) from those of the records.
 fn differs_from_all(identity: Identity, records: &[Record]) -> bool
     ensures { result ≡ every (differ identity) records.now }
 {
@@ -114,6 +114,7 @@ fn are_of_sync(records: &[Record]) -> bool
 pub(crate) fn are_told(form: Form, records: &[Record]) -> bool
     ensures { result ≡ tells form records.now }
 {
+    // One match of two cases: no closure is plainer.
     match form {
         Form::Old => are_of_sync(records),
         Form::New => true,

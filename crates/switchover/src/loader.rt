@@ -41,7 +41,7 @@ pub(crate) fn read_as(form: Form, image: &[u8]) -> Result<Listing, Refusal>
     Ok(listing)
 }
 
-// The form that the first octet says.
+// The form that the first octet says. No From: any octets have a form.
 fn form_of(image: &[u8]) -> Form
     ensures { result ≡ form_in image.now }
 {

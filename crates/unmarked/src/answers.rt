@@ -9,7 +9,7 @@ pub(crate) fn told(answer: Result<Handled, Refusal>) -> Told<Word> {
     Told(answer.map(Word))
 }
 
-// The answer where an image is loaded.
+// The answer where an image is loaded, in words of its own.
 #[derive(Clone, Copy)]
 pub(crate) struct Loaded(pub(crate) Result<(), Refusal>);
 

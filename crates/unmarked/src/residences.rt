@@ -5,7 +5,7 @@ use stamp::ptp;
 use stamp::ptp::Stamp;
 use std::{fmt, io};
 
-// A stamp, as a line shows it.
+// A stamp, as these lines show it and no others.
 #[derive(Clone, Copy)]
 struct Shown(Stamp);
 
