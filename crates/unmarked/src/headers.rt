@@ -3,7 +3,6 @@
 use crate::answers::told;
 use crate::{messages, stamps};
 use message::{G_ACH_HEADER, types};
-use std::io;
 use table::Table;
 
 // Whether the message begins with the header.
@@ -15,29 +14,29 @@ fn compare(message: &[u8; 36]) -> &'static str {
     }
 }
 
-fn written(rt: &impl Print, message_type: u16) -> io::Result<()> {
+fn written(rt: &impl Print, message_type: u16) {
     let message = messages::written(messages::of_type(message_type, -1));
-    println!(rt;
+    let _ = println!(rt;
         "header of type {message_type} as written: {}",
         compare(&message)
-    )
+    );
 }
 
 // The Follow_Up of a Sync with S clear.
-fn created(rt: &impl Print) -> io::Result<()> {
+fn created(rt: &impl Print) {
     let mut sync = messages::written(messages::one_step_sync());
     let mut output = [0; 36];
     let done = rtm::two_step(Table::new(), &mut sync, &mut output, stamps::nanoseconds(0));
-    println!(rt;
+    let _ = println!(rt;
         "header of a Follow_Up, {}: {}",
         told(done.answer),
         compare(&output)
-    )
+    );
 }
 
-pub(crate) fn run(rt: &impl Print) -> io::Result<()> {
+pub(crate) fn run(rt: &impl Print) {
     for message_type in types::NO_PAYLOAD..=types::NTP {
-        written(rt, message_type)?;
+        written(rt, message_type);
     }
-    created(rt)
+    created(rt);
 }

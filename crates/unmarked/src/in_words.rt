@@ -5,7 +5,6 @@ use crate::card::Card;
 use crate::messages;
 use crate::messages::Kind;
 use crate::switchovers::OLD_IMAGE;
-use std::io;
 use table::Table;
 
 // Rubbish: as word 0 with a number of 0, as a packed word with a wait of 0.
@@ -49,73 +48,73 @@ impl<'a, R: Print> Both<'a, R> {
     }
 
     // Tells whether the lent words are those by value, and those wanted.
-    fn compare(&self, wanted: [u64; 64]) -> io::Result<()> {
+    fn compare(&self, wanted: [u64; 64]) {
         if self.words == self.card.table.words && self.words == wanted {
-            print!(self.card.rt; " as wanted")
+            let _ = print!(self.card.rt; " as wanted");
         } else {
-            print!(self.card.rt; " other words")
+            let _ = print!(self.card.rt; " other words");
         }
     }
 
     // Hands a message of identity 1 to the node. A Follow_Up's residence is not looked at.
-    fn hand(&mut self, kind: Kind, wanted: [u64; 64]) -> io::Result<()> {
-        self.card.hand(kind, 1)?;
+    fn hand(&mut self, kind: Kind, wanted: [u64; 64]) {
+        self.card.hand(kind, 1);
         let mut message = messages::written(kind.fields(1));
         let mut output = [0; 36];
         let answer = node::handle_two_step_lent(&mut self.words, &mut message, &mut output, Ok(9));
-        print!(self.card.rt; " lent {} pad {}", told(answer), reader::pad(&message))?;
-        self.compare(wanted)
+        let _ = print!(self.card.rt; " lent {} pad {}", told(answer), reader::pad(&message));
+        self.compare(wanted);
     }
 
-    fn tick(&mut self, wanted: [u64; 64]) -> io::Result<()> {
-        self.card.tick()?;
-        print!(self.card.rt; " lent {}", table::tick(&mut self.words))?;
-        self.compare(wanted)
+    fn tick(&mut self, wanted: [u64; 64]) {
+        self.card.tick();
+        let _ = print!(self.card.rt; " lent {}", table::tick(&mut self.words));
+        self.compare(wanted);
     }
 
-    fn load(&mut self, octets: &[u8], wanted: [u64; 64]) -> io::Result<()> {
+    fn load(&mut self, octets: &[u8], wanted: [u64; 64]) {
         self.card.table = self.card.table.load(octets).table;
-        print!(self.card.rt; ", {}", Loaded(table::load_image(&mut self.words, octets)))?;
-        self.compare(wanted)
+        let _ = print!(self.card.rt; ", {}", Loaded(table::load_image(&mut self.words, octets)));
+        self.compare(wanted);
     }
 }
 
 // A record waits with rubbish beside its wait. A Sync is kept behind it, a second one refused, the
 // Follow_Up added, and the first record ages out; each by value, and lent.
-fn in_service(rt: &impl Print) -> io::Result<()> {
-    print!(rt; "reserved words")?;
+fn in_service(rt: &impl Print) {
+    let _ = print!(rt; "reserved words");
     let mut slots = [[RUBBISH; 3]; 16];
     slots[0] = waiting(3);
     let mut both = Both::new(rt, words_of(1, slots));
     slots[1] = KEPT;
-    both.hand(Kind::Sync, words_of(2, slots))?;
-    both.hand(Kind::Sync, words_of(2, slots))?;
+    both.hand(Kind::Sync, words_of(2, slots));
+    both.hand(Kind::Sync, words_of(2, slots));
     slots[1] = EMPTY;
-    both.hand(Kind::FollowUp, words_of(1, slots))?;
+    both.hand(Kind::FollowUp, words_of(1, slots));
     slots[0] = waiting(2);
-    both.tick(words_of(1, slots))?;
+    both.tick(words_of(1, slots));
     slots[0] = waiting(1);
-    both.tick(words_of(1, slots))?;
+    both.tick(words_of(1, slots));
     slots[0] = EMPTY;
-    both.tick(words_of(0, slots))?;
-    println!(rt; "")
+    both.tick(words_of(0, slots));
+    let _ = println!(rt; "");
 }
 
 // A load that is refused leaves every word, and one that is not replaces all words of slots.
-fn loads(rt: &impl Print) -> io::Result<()> {
-    print!(rt; "reserved words and loads")?;
+fn loads(rt: &impl Print) {
+    let _ = print!(rt; "reserved words and loads");
     let mut slots = [[RUBBISH; 3]; 16];
     slots[0] = waiting(3);
     let before = words_of(2, slots);
     let mut both = Both::new(rt, before);
-    both.load(b"\x01", before)?;
+    both.load(b"\x01", before);
     let mut loaded = [EMPTY; 16];
     loaded[0] = KEPT;
-    both.load(&OLD_IMAGE, words_of(1, loaded))?;
-    println!(rt; "")
+    both.load(&OLD_IMAGE, words_of(1, loaded));
+    let _ = println!(rt; "");
 }
 
-pub(crate) fn run(rt: &impl Print) -> io::Result<()> {
-    in_service(rt)?;
-    loads(rt)
+pub(crate) fn run(rt: &impl Print) {
+    in_service(rt);
+    loads(rt);
 }

@@ -21,25 +21,19 @@ mod stamps;
 mod switchovers;
 mod waits;
 
-use std::io;
-
-fn stories(rt: &impl Print) -> io::Result<()> {
-    limits::run(rt)?;
-    residences::run(rt)?;
-    waits::run(rt)?;
-    switchovers::run(rt)?;
-    headers::run(rt)?;
-    lengths::run(rt)?;
-    clocks::run(rt)?;
-    delays::run(rt)?;
-    releases::run(rt)?;
-    ends::run(rt)?;
-    numbers::run(rt)?;
-    in_words::run(rt)?;
-    paths::run(rt)
-}
-
-// A write that fails ends the stories, and is not told.
+// A piece of a line that cannot be written is not told, and the story goes on.
 fn main(rt: HostRuntime) {
-    let _ = stories(&rt);
+    limits::run(&rt);
+    residences::run(&rt);
+    waits::run(&rt);
+    switchovers::run(&rt);
+    headers::run(&rt);
+    lengths::run(&rt);
+    clocks::run(&rt);
+    delays::run(&rt);
+    releases::run(&rt);
+    ends::run(&rt);
+    numbers::run(&rt);
+    in_words::run(&rt);
+    paths::run(&rt);
 }

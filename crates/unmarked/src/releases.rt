@@ -3,11 +3,10 @@
 use crate::card::{Card, LARGEST};
 use crate::messages::Kind;
 use crate::switchovers::OLD_IMAGE;
-use std::io;
 
 // Converts an image for a card with the old release, and has that load it. Tells whether its octets
 // are those of the image that came from the old release.
-fn load_old(rt: &impl Print, image: &[u8]) -> io::Result<()> {
+fn load_old(rt: &impl Print, image: &[u8]) {
     let mut buffer = [0xAA; LARGEST];
     match switchover::to_old(image, &mut buffer) {
         Ok(size) => {
@@ -17,52 +16,55 @@ fn load_old(rt: &impl Print, image: &[u8]) -> io::Result<()> {
             } else {
                 "other"
             };
-            print!(rt; ", in the old form {size}, {octets} octets")?;
-            Card::new(rt).load(old)
+            let _ = print!(rt; ", in the old form {size}, {octets} octets");
+            Card::new(rt).load(old);
         }
-        Err(refusal) => print!(rt; ", to the old form {refusal}"),
+        Err(refusal) => {
+            let _ = print!(rt; ", to the old form {refusal}");
+        }
     }
 }
 
 // Goes back with the image of the card's table.
-fn go_back<R: Print>(card: &Card<R>) -> io::Result<()> {
-    match card.image(&mut [0xAA; LARGEST])? {
-        Some(image) => load_old(card.rt, image),
-        None => Ok(()),
+fn go_back<R: Print>(card: &Card<R>) {
+    if let Some(image) = card.image(&mut [0xAA; LARGEST]) {
+        load_old(card.rt, image);
     }
 }
 
 // Over with an image of the old form, and back before a Delay_Req comes, while it waits, and after its
 // Delay_Resp.
-fn over_and_back(rt: &impl Print) -> io::Result<()> {
-    print!(rt; "from the old release")?;
+fn over_and_back(rt: &impl Print) {
+    let _ = print!(rt; "from the old release");
     let mut card = Card::new(rt);
-    card.load(&OLD_IMAGE)?;
-    go_back(&card)?;
-    card.tick()?;
-    card.hand(Kind::DelayReq, 1)?;
-    go_back(&card)?;
-    card.hand(Kind::DelayResp, 1)?;
-    go_back(&card)?;
-    card.hand(Kind::FollowUp, 1)?;
-    println!(rt; "")
+    card.load(&OLD_IMAGE);
+    go_back(&card);
+    card.tick();
+    card.hand(Kind::DelayReq, 1);
+    go_back(&card);
+    card.hand(Kind::DelayResp, 1);
+    go_back(&card);
+    card.hand(Kind::FollowUp, 1);
+    let _ = println!(rt; "");
 }
 
 // There and back from the old form: the same octets.
-fn there_and_back(rt: &impl Print) -> io::Result<()> {
-    print!(rt; "there and back")?;
+fn there_and_back(rt: &impl Print) {
+    let _ = print!(rt; "there and back");
     let mut new = [0xAA; LARGEST];
     match switchover::to_new(&OLD_IMAGE, &mut new) {
         Ok(size) => {
-            print!(rt; ", in the new form {size}")?;
-            load_old(rt, &new[..size.min(LARGEST)])?;
+            let _ = print!(rt; ", in the new form {size}");
+            load_old(rt, &new[..size.min(LARGEST)]);
         }
-        Err(refusal) => print!(rt; ", to the new form {refusal}")?,
+        Err(refusal) => {
+            let _ = print!(rt; ", to the new form {refusal}");
+        }
     }
-    println!(rt; "")
+    let _ = println!(rt; "");
 }
 
-pub(crate) fn run(rt: &impl Print) -> io::Result<()> {
-    over_and_back(rt)?;
-    there_and_back(rt)
+pub(crate) fn run(rt: &impl Print) {
+    over_and_back(rt);
+    there_and_back(rt);
 }

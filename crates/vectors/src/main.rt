@@ -76,10 +76,10 @@ fn run_next(rt: &(impl Input + Print)) -> io::Result<bool> {
     Ok(true)
 }
 
-// A line that cannot be written ends the run, and is not told.
+// A line that cannot be written is not told, and the next case is run.
 fn main(rt: HostRuntime) {
     for _ in 0..65536 {
-        if !run_next(&rt).unwrap_or(false) {
+        if !run_next(&rt).unwrap_or(true) {
             break;
         }
     }
