@@ -10,8 +10,8 @@ mod showing;
 mod text;
 mod ttl;
 
-// The programs call `show`, `show_ttl`, `replay` and `plan`; the others stay for callers that have the
-// octets already.
+// The programs call `show`, `show_ttl`, `replay` and `plan`, which print by `print`, `print_ttl`,
+// `print_report` and `print_plan`; the others stay for callers that want the line and do not print it.
 pub use planning::{plan, plan_line, print_plan};
 pub use replaying::{print_report, replay, report_text};
 pub use showing::{line, print, show};

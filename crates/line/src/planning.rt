@@ -69,5 +69,5 @@ pub fn print_plan(rt: &impl Print, path: &[u8]) -> usize
 pub fn plan(rt: &(impl Input + Print)) -> usize
     ensures { result ≤ 65536 }
 {
-    program::run(rt, &mut [0; MOST], path_text)
+    program::run(rt, &mut [0; MOST], |path| print_plan(rt, path))
 }

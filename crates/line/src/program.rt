@@ -1,19 +1,16 @@
 // What the programs have in common.
-ghost use Rattle.std.specs.Prelude.{◌≤◌, length};
+ghost use Rattle.std.specs.Prelude.{◌≡◌, ◌≤◌, length};
+ghost use Rattle.std.specs.Fn.{FnReturnsAt};
 
-use crate::text::Text;
-
-// Reads standard input until room is full or the input ends, prints the text of what was read, and
-// answers how many octets that was.
-pub(crate) fn run<F: Fn(&[u8]) -> Text>(
-    rt: &(impl Input + Print),
-    room: &mut [u8],
-    text_of: F,
-) -> usize
-    requires { F.IsAlwaysCallable text_of }
-    ensures { result ≤ length room.old }
+// Reads standard input until room is full or the input ends, prints what was read by `print`, and
+// answers how many octets that was. `printed` says that `print` told something of so many octets, which
+// only a call of it shows.
+pub(crate) fn run<F: Fn(&[u8]) -> usize>(rt: &impl Input, room: &mut [u8], print: F) -> usize
+    requires { F.IsAlwaysCallable print }
+    ensures upper_bound { result ≤ length room.old }
+    ensures printed { (input : _) × (told : _) × (length input ≡ result) × FnReturnsAt F.Fn print input told }
 {
     let n = input::fill(rt, room);
-    text_of(&room[..n]).print(rt);
+    print(&room[..n]);
     n
 }

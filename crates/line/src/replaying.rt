@@ -103,5 +103,5 @@ pub fn print_report(rt: &impl Print, capture: &[u8]) -> usize
 pub fn replay(rt: &(impl Input + Print)) -> usize
     ensures { result ≤ 65537 }
 {
-    program::run(rt, &mut [0; MOST], capture_text)
+    program::run(rt, &mut [0; MOST], |capture| print_report(rt, capture))
 }

@@ -89,5 +89,5 @@ pub fn print(rt: &impl Print, message: &[u8]) -> usize
 pub fn show(rt: &(impl Input + Print)) -> usize
     ensures { result ≤ 2049 }
 {
-    program::run(rt, &mut [0; MOST], message_text)
+    program::run(rt, &mut [0; MOST], |message| print(rt, message))
 }

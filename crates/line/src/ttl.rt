@@ -95,5 +95,5 @@ pub fn print_ttl(rt: &impl Print, lists: &[u8]) -> usize
 pub fn show_ttl(rt: &(impl Input + Print)) -> usize
     ensures { result ≤ 65536 }
 {
-    program::run(rt, &mut [0; MOST], lists_text)
+    program::run(rt, &mut [0; MOST], |lists| print_ttl(rt, lists))
 }
