@@ -1,5 +1,5 @@
--- The plan that is left to make from the sums so far: it starts as the plan of all hops, a hop more changes nothing in it, and it ends
--- with the sums. And no sum overflows.
+-- The sums that are left to make from the sums so far: they start as the sums of all hops, a hop more changes nothing in them, and they
+-- end with the sums so far. And no sum overflows.
 -- Assumes nothing.
 use Prim.Native.Nat.{ℕ, ◌+◌, ◌≤◌}
 use mathlib.Core.Path.{◌≡◌, refl, sym, ap, ◌∙◌}
@@ -12,11 +12,9 @@ use Rattle.refusal.specs.Answer.{Answer, value, refuse}
 use Rattle.refusal.proofs.Answers.{not_both, same_value}
 use Rattle.residence.specs.Residence.{limit}
 use Rattle.hops.specs.declared.Hop.{Hop}
-use Rattle.hops.specs.declared.Start.{Start}
-use Rattle.hops.specs.declared.End.{End}
 use Rattle.hops.specs.Plan.{is_mode, residence_in, residences_in, any_in, checked}
 use Rattle.planner.specs.declared.sums.Sums.{Sums}
-use Rattle.planner.specs.Sums.{counted, step_of, end_by}
+use Rattle.planner.specs.Sums.{going, counted, step_of}
 
 or_false : (b : Bool) → b || false ≡ b
 or_false true = refl
@@ -26,30 +24,34 @@ or_assoc : (a b c : Bool) → a || (b || c) ≡ (a || b) || c
 or_assoc true b c = refl
 or_assoc false b c = refl
 
-abbrev pub ending : Start → Sums → List Hop → Answer End
-ending start s hs = checked hs (value (end_by (s.one_step + residences_in 1 hs) (s.two_step + residences_in 2 hs) (s.creates || any_in 2 hs) start))
+-- what stands past the end of a list
+abbrev pub no_hop : Hop
+no_hop = record { mode = 0; residence = 0 }
 
-pub last_ending : (start : Start) (s : Sums) → ending start s [] ≡ value (end_by s.one_step s.two_step s.creates start)
-last_ending start s =
+abbrev pub ending : Sums → List Hop → Answer Sums
+ending s hs = checked hs (value (going (s.one_step + residences_in 1 hs) (s.two_step + residences_in 2 hs) (s.creates || any_in 2 hs)))
+
+pub last_ending : (s : Sums) → ending s [] ≡ value s
+last_ending s =
     let p : s.one_step + 0 ≡ s.one_step = omega arith in
     let q : s.two_step + 0 ≡ s.two_step = omega arith in
-    λ i. value (end_by (p i) (q i) (or_false s.creates i) start)
+    λ i. value (going (p i) (q i) (or_false s.creates i))
 
-module _ (start : Start) (s : Sums) (h : Hop) (hs : List Hop) where
-  abbrev rest : Answer End
-  rest = checked hs (value (end_by (s.one_step + residences_in 1 (h ∷ hs)) (s.two_step + residences_in 2 (h ∷ hs)) (s.creates || any_in 2 (h ∷ hs)) start))
+module _ (s : Sums) (h : Hop) (hs : List Hop) where
+  abbrev rest : Answer Sums
+  rest = checked hs (value (going (s.one_step + residences_in 1 (h ∷ hs)) (s.two_step + residences_in 2 (h ∷ hs)) (s.creates || any_in 2 (h ∷ hs))))
 
-  pub next_ending : (t : Sums) → value t ≡ step_of s h → ending start s (h ∷ hs) ≡ ending start t hs
+  pub next_ending : (t : Sums) → value t ≡ step_of s h → ending s (h ∷ hs) ≡ ending t hs
   next_ending t e = go (not (is_mode h.mode)) (leb limit h.residence) e
     where
-      go : (p q : Bool) → value t ≡ refuse 29 p (refuse 10 q (value (counted s h))) → refuse 29 p (refuse 10 q rest) ≡ ending start t hs
+      go : (p q : Bool) → value t ≡ refuse 29 p (refuse 10 q (value (counted s h))) → refuse 29 p (refuse 10 q rest) ≡ ending t hs
       go true q e = absurd (not_both (sym e))
       go false true e = absurd (not_both (sym e))
       go false false e =
           let p : s.one_step + (residence_in 1 h + residences_in 1 hs) ≡ s.one_step + residence_in 1 h + residences_in 1 hs = omega arith in
           let q : s.two_step + (residence_in 2 h + residences_in 2 hs) ≡ s.two_step + residence_in 2 h + residences_in 2 hs = omega arith in
-          (λ i. checked hs (value (end_by (p i) (q i) (or_assoc s.creates (eqb h.mode 2) (any_in 2 hs) i) start)))
-          ∙ ap (λ (x : Sums). ending start x hs) (sym (same_value e))
+          (λ i. checked hs (value (going (p i) (q i) (or_assoc s.creates (eqb h.mode 2) (any_in 2 hs) i))))
+          ∙ ap (λ (x : Sums). ending x hs) (sym (same_value e))
 
 -- a hop adds less than the limit to either sum
 part : (b : Bool) (u : ℕ) → cond b u 0 ≤ u

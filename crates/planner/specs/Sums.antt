@@ -6,7 +6,7 @@ use Rattle.scratch_pad.specs.Sum.{raised}
 use Rattle.hops.specs.declared.Hop.{Hop}
 use Rattle.hops.specs.declared.Start.{Start}
 use Rattle.hops.specs.declared.End.{End}
-use Rattle.hops.specs.Plan.{is_mode, residence_in, follow_up_start, plan_of}
+use Rattle.hops.specs.Plan.{is_mode, residence_in, residences_in, any_in, follow_up_start, checked, plan_of}
 use Rattle.planner.specs.declared.sums.Sums.{Sums}
 
 -- no sum can overflow at the next hop
@@ -26,6 +26,13 @@ counted s h = going (s.one_step + residence_in 1 h) (s.two_step + residence_in 2
 -- one hop more: 29, 10
 abbrev pub step_of : Sums → Hop → Answer Sums
 step_of s h = refuse 29 (not (is_mode h.mode)) (refuse 10 (leb limit h.residence) (value (counted s h)))
+
+-- of all hops, or the refusal of the first bad one
+abbrev pub sums_in : List Hop → Sums
+sums_in hs = going (residences_in 1 hs) (residences_in 2 hs) (any_in 2 hs)
+
+abbrev pub checked_sums : List Hop → Answer Sums
+checked_sums hs = checked hs (value (sums_in hs))
 
 abbrev pub end_by : ℕ → ℕ → Bool → Start → End
 end_by one two creates s =
