@@ -1,6 +1,8 @@
 -- The calls that the two functions make, in the terms of the rules.
-use Rattle.std.specs.Prelude.{ℕ, List}
+use Rattle.std.specs.Prelude.{ℕ, Bool, false, List, ltb}
 use Rattle.residence.specs.Residence.{Residence}
+use Rattle.message.specs.declared.fields.Message.{Message}
+use Rattle.message.specs.declared.fields.Message.TheVariants.{Plain, Ptp}
 use Rattle.records.specs.Node.{table_answer}
 use Rattle.words.specs.Words.{slots_of, number_of, words_after}
 use Rattle.rules.specs.Rules.{Call, Kind, one_step, two_step, kind_of, request_by, call_by}
@@ -9,6 +11,11 @@ use Rattle.node.specs.Answers.{DoneOn, ToldOn}
 
 abbrev pub one_step_call : List ℕ → List ℕ → Residence → Call
 one_step_call m o r = record { mode = one_step; message = m; residence = r; output = o }
+
+-- what a one-step node tests of a message as read: types 2 to 4 with a PTPType above 3
+abbrev pub passes : Message → Bool
+passes (Plain h) = false
+passes (Ptp h t) = ltb 3 t.ptp_type
 
 abbrev pub two_step_call : List ℕ → List ℕ → Residence → Call
 two_step_call m o r = record { mode = two_step; message = m; residence = r; output = o }

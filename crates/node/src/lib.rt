@@ -11,5 +11,6 @@ mod two_step;
 
 pub use answer::{Done, Told};
 pub use one_step::handle_one_step;
+pub use refusal::Refusal;
 pub use rules::Handled;
 pub use two_step::{handle_two_step, handle_two_step_lent, tell_two_step};

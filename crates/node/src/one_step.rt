@@ -1,24 +1,22 @@
 // The one-step node: the residence is added to the pad of the message itself.
-ghost use Rattle.std.specs.Prelude.{◌≡◌, ◌&&◌, ℕ, List, ltb};
-ghost use Rattle.message.specs.Read.{header, is_ptp, message_value, sub_tlv};
+ghost use Rattle.std.specs.Prelude.{◌≡◌, ℕ, List};
 ghost use Rattle.records.specs.Slots.{Slots};
 ghost use Rattle.rules.specs.Rules.{update, call_of};
 ghost use Rattle.residence.specs.Residence.{accepted_of};
 ghost use Rattle.node.specs.Answers.{replied, done_alone};
-ghost use Rattle.node.specs.Calls.{one_step_call};
+ghost use Rattle.node.specs.Calls.{passes, one_step_call};
 
 use crate::answer;
-use message::{is_ptp, types};
+use message::{Message, types};
 use refusal::Refusal;
 use residence::Residence;
 use rules::Handled;
 
 // Types 2 to 4 with a PTPType above 3.
-fn passes(message: &[u8]) -> bool
-    ensures { result ≡ (is_ptp (header message.now).message_type && ltb 3 (sub_tlv (message_value message.now)).ptp_type) }
+fn passes(message: Message) -> bool
+    ensures { result ≡ passes message }
 {
-    is_ptp(reader::message_type(message))
-        && reader::ptp_type(reader::value(message)) > types::PDELAY_RESP
+    matches!(message, Message::Ptp(_, sub_tlv) if sub_tlv.ptp_type > types::PDELAY_RESP)
 }
 
 // Adds the residence: refusals 9 and 10.
@@ -36,8 +34,7 @@ fn update_pad(message: &mut [u8], residence: Residence) -> Result<Handled, Refus
 pub fn handle_one_step(message: &mut [u8], residence: Residence) -> Result<Handled, Refusal>
     ensures { (t : Slots) (n : ℕ) (o : List ℕ) → done_alone result message.new o t n ≡ call_of t n (one_step_call message.old o residence) }
 {
-    reader::check(message)?;
-    if passes(message) {
+    if passes(reader::read(message)?) {
         return Ok(Handled::Passed);
     }
     update_pad(message, residence)

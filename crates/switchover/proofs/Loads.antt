@@ -44,7 +44,7 @@ module _ (F : Form) (s : List ℕ) where
 
   -- what was read of n bodies, where the octets say n: the records that they hold, and zeros behind
   module _ (n : ℕ) (l : Slots) (told : n ≡ count_in F s) (read : l ≡ filled (map (record_of F) (map (fields_at (widths F) s) (offsets F n)))) where
-    read_filled : l ≡ filled (records_at F s)
+    pub read_filled : l ≡ filled (records_at F s)
     read_filled = read ∙ ap (λ (m : ℕ). filled (map (record_of F) (map (fields_at (widths F) s) (offsets F m)))) told
 
     many : length (records_at F s) ≡ n

@@ -10,6 +10,7 @@ use refusal::Refusal;
 
 // Writes the records of an image of one form as an image of another, at the start of the output, which
 // stays as it came beyond the size and on refusal.
+#[inline(always)]
 fn convert(from: Form, to: Form, image: &[u8], out: &mut [u8]) -> Result<usize, Refusal>
     ensures { written result out.new ≡ convert_of from to image.now out.old }
 {

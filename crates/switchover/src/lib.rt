@@ -12,4 +12,5 @@ mod writer;
 
 pub use converter::{to_new, to_old};
 pub use loader::{Loaded, load};
+pub use refusal::Refusal;
 pub use writer::write;

@@ -23,23 +23,26 @@ impl Listing {
     }
 }
 
-// The records of a table, in slot order.
-pub(crate) fn list(slots: [Record; 16]) -> Listing
-    ensures { take result.count result.slots ≡ records_of slots }
+// The records of a table, in slot order. (Put into its caller it is unrolled, and takes 664 octets of
+// stack more.)
+#[inline(never)]
+pub(crate) fn list(slots: &[Record; 16]) -> Listing
+    ensures { take result.count result.slots ≡ records_of slots.now }
 {
-    let mut listed = [Record::zeros(); 16];
-    let mut count: usize = 0;
+    let none = [Record::zeros(); 16];
+    let mut listing = Listing {
+        slots: none,
+        count: 0,
+    };
     for slot in slots {
         let holds = slot.wait != 0;
         if holds {
-            listed[count] = slot;
-            count += 1;
+            let place = listing.count;
+            listing.count += 1;
+            listing.slots[place] = *slot;
         }
     }
-    Listing {
-        slots: listed,
-        count,
-    }
+    listing
 }
 
 fn has_right_wait(slot: Record) -> bool
@@ -55,18 +58,18 @@ fn is_sound(slot: Record) -> bool
     has_right_wait(slot) && slot.residence < residence::LIMIT
 }
 
-// The identity differs (`!=`, in the definition's word) from those of the records.
+// The identity differs from those of the records.
 fn differs_from_all(identity: Identity, records: &[Record]) -> bool
     ensures { result ≡ every (differ identity) records.now }
 {
     records.iter().all(|record| differs(identity, *record))
 }
 
-#[tactic(auto, unfolding(image::specs::Image::differ, records::specs::Slots::same))]
+#[tactic(auto, unfolding(image::specs::Image::differ))]
 fn differs(identity: Identity, slot: Record) -> bool
     ensures { result ≡ differ identity slot }
 {
-    identity != slot.identity()
+    !identity.equals(slot.identity())
 }
 
 // No two of the records have the same identity.

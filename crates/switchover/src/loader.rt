@@ -22,6 +22,7 @@ pub struct Loaded {
 
 // The records that these octets hold as an image of this form, in its order. Refusal 22 for any other
 // string than an image of records that can be loaded.
+#[inline(always)]
 pub(crate) fn read_as(form: Form, image: &[u8]) -> Result<Listing, Refusal>
     ensures { records_read result ≡ read_as form image.now }
 {

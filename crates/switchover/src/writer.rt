@@ -43,7 +43,7 @@ pub(crate) fn write_records(
 pub fn write(slots: [Record; 16], out: &mut [u8]) -> Result<usize, Refusal>
     ensures { written result out.new ≡ write_of slots out.old }
 {
-    let listing = listing::list(slots);
+    let listing = listing::list(&slots);
     let records = listing.records();
     if !listing::are_loadable(records) {
         return Err(Refusal::Image);

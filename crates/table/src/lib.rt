@@ -17,7 +17,7 @@ ghost use Rattle.table.specs.Table.{made, entered, taken, counted, load_on, relo
 pub use images::{load_image, write_image};
 pub use lent::{add, clear, collect, fill, number, slots, tick, waiting};
 use records::{Identity, Record};
-use refusal::Refusal;
+pub use refusal::Refusal;
 
 /// The words are slots, a number and room for later fields (specs/Words.antt of `words`). In a new
 /// or a loaded table, and in what the operations make of one, the number is how many slots hold a

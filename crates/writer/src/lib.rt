@@ -8,7 +8,7 @@ ghost use Rattle.refusal.specs.Refusal.{answer_of};
 ghost use Rattle.refusal.specs.Written.{written};
 
 use message::{Fields, Header, SubTlv, is_ptp, is_sub_tlv_length, layout, types};
-use refusal::Refusal;
+pub use refusal::Refusal;
 
 // The size of a message whose carried packet starts at `start`: refusals 2 and 12.
 fn fit(start: usize, carried: usize, room: usize) -> Result<usize, Refusal>

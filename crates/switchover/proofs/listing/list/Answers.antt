@@ -6,9 +6,9 @@ use Rattle.switchover.proofs.listing.list.Goals.{then-holds, else-holds}
 
 pub loop-slot-preserved : goal.loop-slot-preserved
 loop-slot-preserved c =
-    let t = c.args.slots in
-    let l = c.loop-slot.listed in
+    let t = c.args.slots.now in
+    let l = c.loop-slot.listing.0 in
     elim c.if-holds.branch [
-      | then-holds w ↦ rw (w.listed-is, w.count-is) (list_record t l c.loop-slot.count c.loop-slot.slot-index c.loop-slot.invariant (omega arith) w.if-holds.true)
-      | else-holds w ↦ rw (w.listed-is, w.count-is) (list_empty t l c.loop-slot.count c.loop-slot.slot-index c.loop-slot.invariant (omega arith) (omega arith))
+      | then-holds w ↦ rw w.listing-is (list_record t l c.loop-slot.listing.1.0 c.loop-slot.slot-index c.loop-slot.invariant (omega arith) w.if-holds.true)
+      | else-holds w ↦ rw w.listing-is (list_empty t l c.loop-slot.listing.1.0 c.loop-slot.slot-index c.loop-slot.invariant (omega arith) (omega arith))
     ]
