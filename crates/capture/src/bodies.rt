@@ -32,9 +32,11 @@ pub fn body(capture: &[u8], k: usize) -> &[u8]
 pub fn is_capture(capture: &[u8]) -> bool
     ensures { result ≡ is_capture capture.now }
 {
+    if capture.len() > layout::LARGEST {
+        return false;
+    }
     let n = contents::count(capture);
-    if capture.len() > layout::LARGEST
-        || n > layout::MOST_BODIES
+    if n > layout::MOST_BODIES
         || contents::start(capture, n, 0) != layout::OFFSETS + layout::OFFSET_SIZE * n
     {
         return false;

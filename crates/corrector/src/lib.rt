@@ -3,7 +3,7 @@
 // hands them over.
 #![tactic(auto)]
 
-ghost use Rattle.std.specs.Prelude.{◌≡◌, ◌+◌, ◌≤◌, length};
+ghost use Rattle.std.specs.Prelude.{◌≡◌, ◌+◌, ◌≤◌, length, drop};
 ghost use Rattle.octets.specs.Octets.{signed_octets, put};
 ghost use Rattle.message.specs.Read.{message_value, sub_tlv as read_sub_tlv, carried_of};
 ghost use Rattle.egress.specs.Pair.{Whole};
@@ -37,6 +37,14 @@ fn new_field(header: &[u8], total: i64) -> Result<i64, Refusal>
     )
 }
 
+// The packet from a place on, nothing where it ends before. The place is never added to: it may be any
+// number.
+fn header_at(copy: &[u8], place: usize) -> &[u8]
+    ensures { result.now ≡ drop place copy.now }
+{
+    copy.get(place..).unwrap_or(&[])
+}
+
 // The new correctionField of a copy of the packet that this message carried: refusals 30 to 33.
 fn field_by_carrier(carrier: &[u8], place: usize, copy: &[u8], total: i64) -> Result<i64, Refusal>
     requires { Whole carrier.now }
@@ -46,22 +54,29 @@ fn field_by_carrier(carrier: &[u8], place: usize, copy: &[u8], total: i64) -> Re
     if !octets::same(copy, &carrier[CARRIED..]) {
         return Err(Refusal::NotACopy);
     }
-    if copy.len() < layout::HEADER_SIZE {
+    let header = header_at(copy, place);
+    if header.len() < layout::HEADER_SIZE {
         return Err(Refusal::NoPtpHeader);
     }
-    // A place is never added to: it may be any number.
-    if copy.len() - layout::HEADER_SIZE < place {
-        return Err(Refusal::NoPtpHeader);
-    }
-    let header = &copy[place..];
     if !agrees(header, reader::sub_tlv(reader::value(carrier))) {
         return Err(Refusal::PtpHeaderMismatch);
     }
     new_field(header, total)
 }
 
-// The same for a joined pair: the Follow_Up carried the packet, or the Sync where the Follow_Up's is
-// empty.
+// The message that carried the packet: the Follow_Up, or the Sync where the Follow_Up's is empty.
+fn carrier<'a>(sync: &'a [u8], follow_up: &'a [u8]) -> &'a [u8]
+    requires { Whole follow_up.now }
+    ensures { result.now ≡ carrier_of sync.now follow_up.now }
+{
+    if CARRIED < follow_up.len() {
+        return follow_up;
+    }
+    sync
+}
+
+// The same for a joined pair. `field_by_carrier` is called in one place, so that it is put into this
+// function.
 fn field_of_pair(
     sync: &[u8],
     follow_up: &[u8],
@@ -73,10 +88,7 @@ fn field_of_pair(
     ensures { answer_of result
         ≡ packet_field (carried_of (carrier_of sync.now follow_up.now)) (carrier_sub_tlv sync.now follow_up.now) place copy.now total }
 {
-    if CARRIED < follow_up.len() {
-        return field_by_carrier(follow_up, place, copy, total);
-    }
-    field_by_carrier(sync, place, copy, total)
+    field_by_carrier(carrier(sync, follow_up), place, copy, total)
 }
 
 // Stores a correctionField in the header at a place.

@@ -23,17 +23,22 @@ compared m copy r b w e g =
 
 -- and the header with the sub-TLV
 agreed :
-    (m copy v : List ℕ) (place : ℕ) (t : SubTlv) (r b : Bool)
+    (m v x y : List ℕ) (t : SubTlv) (r b : Bool)
     → Whole m
     → v ≡ message_value m
     → t ≡ sub_tlv_in v
-    → r ≡ agrees t (ptp_header (take (length copy - place) (drop place copy)))
+    → x ≡ y
+    → r ≡ agrees t (ptp_header x)
     → r ≡ b
-    → agrees (sub_tlv (message_value m)) (ptp_header (drop place copy)) ≡ b
-agreed m copy v place t r b w ev et e g =
+    → agrees (sub_tlv (message_value m)) (ptp_header y) ≡ b
+agreed m v x y t r b w ev et h e g =
     let long = w.1 in
     let u = et ∙ ap sub_tlv_in ev ∙ sub_tlv_in_lem (message_value m) (omega (arith, length-drop 16 m)) in
-    sym (e ∙ (λ i. agrees (u i) (ptp_header (rest copy place i)))) ∙ g
+    sym (e ∙ (λ i. agrees (u i) (ptp_header (h i)))) ∙ g
+
+-- what is left of a copy from a place on
+left : (copy h : List ℕ) (place : ℕ) → h ≡ drop place copy → length h ≡ length copy - place
+left copy h place e = ap length e ∙ length-drop place copy
 
 pub returns-then-not-same : goal.returns-then-not-same
 returns-then-not-same c =
@@ -41,17 +46,12 @@ returns-then-not-same c =
     other_copy (carried_of m) (sub_tlv (message_value m)) c.args.place c.args.copy.now c.args.total
     (compared m c.args.copy.now c.same.result false c.requires c.same.ensures c.if-not-same.true)
 
-pub returns-then-copy-lt-HEADER_SIZE : goal.returns-then-copy-lt-HEADER_SIZE
-returns-then-copy-lt-HEADER_SIZE c =
+pub returns-then-header-lt-HEADER_SIZE : goal.returns-then-header-lt-HEADER_SIZE
+returns-then-header-lt-HEADER_SIZE c =
     let m = c.args.carrier.now in
-    no_header (carried_of m) (sub_tlv (message_value m)) c.args.place c.args.copy.now c.args.total
-    (compared m c.args.copy.now c.same.result true c.requires c.same.ensures c.if-not-same.false) (omega arith)
-
-pub returns-then-copy-place : goal.returns-then-copy-place
-returns-then-copy-place c =
-    let m = c.args.carrier.now in
-    no_header (carried_of m) (sub_tlv (message_value m)) c.args.place c.args.copy.now c.args.total
-    (compared m c.args.copy.now c.same.result true c.requires c.same.ensures c.if-not-same.false) (omega arith)
+    let copy = c.args.copy.now in
+    no_header (carried_of m) (sub_tlv (message_value m)) c.args.place copy c.args.total
+    (compared m copy c.same.result true c.requires c.same.ensures c.if-not-same.false) (omega (arith, left copy c.header_at-header.result.now c.args.place c.header_at-header.ensures))
 
 pub returns-then-not-agrees : goal.returns-then-not-agrees
 returns-then-not-agrees c =
@@ -59,10 +59,10 @@ returns-then-not-agrees c =
     let copy = c.args.copy.now in
     let place = c.args.place in
     let h = ptp_header (drop place copy) in
-    let differ = agreed m copy c.value.result.now place c.sub_tlv.result c.agrees.result false c.requires c.value.ensures c.sub_tlv.ensures c.agrees.ensures c.if-not-agrees.true in
+    let differ = agreed m c.value.result.now c.header_at-header.result.now _ c.sub_tlv.result c.agrees.result false c.requires c.value.ensures c.sub_tlv.ensures c.header_at-header.ensures c.agrees.ensures c.if-not-agrees.true in
     sym (ap (λ (b : Bool). refuse 32 (not b) (field_of h c.args.total)) differ)
     ∙ header_there (carried_of m) (sub_tlv (message_value m)) place copy c.args.total
-    (compared m copy c.same.result true c.requires c.same.ensures c.if-not-same.false) (omega arith)
+    (compared m copy c.same.result true c.requires c.same.ensures c.if-not-same.false) (omega (arith, left copy c.header_at-header.result.now place c.header_at-header.ensures))
 
 pub returns : goal.returns
 returns c =
@@ -70,9 +70,9 @@ returns c =
     let copy = c.args.copy.now in
     let place = c.args.place in
     let h = ptp_header (drop place copy) in
-    let agree = agreed m copy c.value.result.now place c.sub_tlv.result c.agrees.result true c.requires c.value.ensures c.sub_tlv.ensures c.agrees.ensures c.if-not-agrees.false in
+    let agree = agreed m c.value.result.now c.header_at-header.result.now _ c.sub_tlv.result c.agrees.result true c.requires c.value.ensures c.sub_tlv.ensures c.header_at-header.ensures c.agrees.ensures c.if-not-agrees.false in
     c.new_field.ensures
-    ∙ (λ i. field_of (ptp_header (rest copy place i)) (to_z-of_z {w = w64} c.ranges.total i))
+    ∙ (λ i. field_of (ptp_header (c.header_at-header.ensures i)) (to_z-of_z {w = w64} c.ranges.total i))
     ∙ sym (ap (λ (b : Bool). refuse 32 (not b) (field_of h c.args.total)) agree)
     ∙ header_there (carried_of m) (sub_tlv (message_value m)) place copy c.args.total
-    (compared m copy c.same.result true c.requires c.same.ensures c.if-not-same.false) (omega arith)
+    (compared m copy c.same.result true c.requires c.same.ensures c.if-not-same.false) (omega (arith, left copy c.header_at-header.result.now place c.header_at-header.ensures))
