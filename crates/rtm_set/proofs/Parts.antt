@@ -12,8 +12,9 @@ use lib.Seq.{length-take-le, drop-drop}
 use Rattle.refusal.specs.Answer.{Answer, value, refused, refuse, and_then}
 use Rattle.refusal.proofs.Answers.{not_both, same_value}
 use Rattle.rtm_set.specs.declared.part.Part.{Part}
-use Rattle.rtm_set.specs.Entries.{front_size, is_entry, entries_within, entries_of, entry_of, part_by, octets_in, part_in, part_of, behind, PartHolds}
+use Rattle.rtm_set.specs.Entries.{front_size, is_entry, entries_within, entries_of, count_of, entry_of, part_by, octets_in, part_in, part_of, behind, PartHolds}
 use Rattle.rtm_set.proofs.Rest.{Front, front, before, entries_rest}
+use Rattle.rtm_set.proofs.Counts.{counted}
 use Rattle.rtm_set.proofs.Places.{at, has_short, not_refused}
 
 -- the list holds e from the octet i on
@@ -84,17 +85,17 @@ tells s k p e = go (ltb 1024 (length s)) (entries_within (length s) s) refl e
 pub part_holds : PartHolds
 part_holds s k p e = (tells s k p e).same
 
--- a list that has an entry at the place
-module _ (s : List ℕ) (k : ℕ) (has : value (part_by (entry_of s k)) ≡ entry_of s k) (n : ℕ) (f : Front s n) where
-  pub part_here : k ≡ 0 → part_of s k ≡ value (record { offset = 0; length = n })
-  part_here z = go (entries_of (drop n s)) (entries_rest s n f (has_short s k has))
+-- of a list of at most 1,024 octets with an entry of n octets at the front
+module _ (s : List ℕ) (n : ℕ) (f : Front s n) (fits : length s ≤ 1024) where
+  pub part_first : (m : ℕ) → count_of s ≡ value m → part_of s 0 ≡ value (record { offset = 0; length = n })
+  part_first m c = go (entries_of (drop n s)) (entries_rest s n f fits)
     where
-      go : (a : Answer (List (List ℕ))) → entries_of s ≡ before (take n s) a → part_of s k ≡ value (record { offset = 0; length = n })
-      go (value es) e = ap (part_at k) e ∙ rw (z, leb-suc-zero (length es), length-take-le n s f.fits)
-      go (refused m) e = absurd (not_refused s k has m (ap (at k) e))
+      go : (a : Answer (List (List ℕ))) → entries_of s ≡ before (take n s) a → part_of s 0 ≡ value (record { offset = 0; length = n })
+      go (value es) e = ap (part_at 0) e ∙ rw (leb-suc-zero (length es), length-take-le n s f.fits)
+      go (refused r) e = absurd (not_both (sym (ap counted e) ∙ c))
 
-  pub part_later : (k ≡ 0 → ⊥) → part_of s k ≡ behind n (part_of (drop n s) (k - 1))
-  part_later z = ap (part_at k) (entries_rest s n f (has_short s k has)) ∙ go k z (entries_of (drop n s))
+  pub part_rest : (k : ℕ) → (k ≡ 0 → ⊥) → part_of s k ≡ behind n (part_of (drop n s) (k - 1))
+  part_rest k z = ap (part_at k) (entries_rest s n f fits) ∙ go k z (entries_of (drop n s))
     where
       past : (j : ℕ) (es : List (List ℕ)) (t : Bool)
           → refuse 21 t (value (part_in (take n s ∷ es) (suc j)))
@@ -106,6 +107,18 @@ module _ (s : List ℕ) (k : ℕ) (has : value (part_by (entry_of s k)) ≡ entr
       go zero h a = absurd (h refl)
       go (suc j) h (value es) = let e : suc j - 1 ≡ j = omega arith in rw (e, leb-suc-suc (length es) j) (past j es (leb (length es) j))
       go (suc j) h (refused m) = refl
+
+-- a list that has an entry at the place
+module _ (s : List ℕ) (k : ℕ) (has : value (part_by (entry_of s k)) ≡ entry_of s k) (n : ℕ) (f : Front s n) where
+  pub part_here : k ≡ 0 → part_of s k ≡ value (record { offset = 0; length = n })
+  part_here z = go (entries_of (drop n s)) (entries_rest s n f (has_short s k has))
+    where
+      go : (a : Answer (List (List ℕ))) → entries_of s ≡ before (take n s) a → part_of s k ≡ value (record { offset = 0; length = n })
+      go (value es) e = ap (part_at k) e ∙ rw (z, leb-suc-zero (length es), length-take-le n s f.fits)
+      go (refused m) e = absurd (not_refused s k has m (ap (at k) e))
+
+  pub part_later : (k ≡ 0 → ⊥) → part_of s k ≡ behind n (part_of (drop n s) (k - 1))
+  part_later = part_rest s n f (has_short s k has) k
 
 -- the entry and its part are refused alike, whatever is made of the entries
 refused_alike : {A B : Type 0} (x : List (List ℕ) → A) (y : List (List ℕ) → B) (k n : ℕ) (a : Answer (List (List ℕ)))

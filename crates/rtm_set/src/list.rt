@@ -1,6 +1,5 @@
 // Counting the entries of a list, and finding one.
-ghost use Rattle.std.specs.Prelude.{◌≡◌, ◌+◌, ◌≤◌, length};
-ghost use Rattle.refusal.specs.Answer.{value};
+ghost use Rattle.std.specs.Prelude.{◌≡◌, ◌-◌, ◌≤◌, length};
 ghost use Rattle.refusal.specs.Refusal.{answer_of};
 ghost use Rattle.rtm_set.specs.Entries.{count_of, entry_of, part_by, part_of, behind};
 ghost use Rattle.rtm_set.specs.Answers.{size_of, front_of, shown_of};
@@ -59,19 +58,21 @@ pub fn count(list: &[u8]) -> Result<usize, Refusal>
     count_rest(list)
 }
 
-// The entry at a place that has one, behind as many octets as offset says: the front, or an entry of
-// the rest, behind the front as well.
-fn locate_rest(list: &[u8], place: usize, offset: usize) -> Part
-    requires list_bound { offset + length list.now ≤ 1024 }
-    requires place_value { value (part_by (entry_of list.now place)) ≡ entry_of list.now place }
-    ensures { value result ≡ behind offset (part_of list.now place) }
+// The list from the entry at a place on; where it has none there, from where it ends or a bad entry
+// stands. Only what stands before is read.
+fn locate_rest(list: &[u8], place: usize) -> &[u8]
+    requires { length list.now ≤ 1024 }
+    ensures upper_bound { length result.now ≤ length list.now }
+    ensures part_from { behind (length list.now - length result.now) (part_of result.now 0) ≡ part_of list.now place }
 {
-    let length = front(list).unwrap();
     let is_front = place == 0;
     if is_front {
-        return Part { offset, length };
+        return list;
     }
-    locate_rest(&list[length..], place - 1, offset + length)
+    let Some(size) = front(list) else {
+        return list;
+    };
+    locate_rest(&list[size..], place - 1)
 }
 
 /// Where the entry at a place, counted from 0, begins in the list, and its length: refusals 19, 20
@@ -79,10 +80,16 @@ fn locate_rest(list: &[u8], place: usize, offset: usize) -> Part
 pub fn locate(list: &[u8], place: usize) -> Result<Part, Refusal>
     ensures { answer_of result ≡ part_of list.now place }
 {
-    if place >= count(list)? {
-        return Err(Refusal::NoEntry);
+    if layout::LARGEST < list.len() {
+        return Err(Refusal::ListTooLong);
     }
-    Ok(locate_rest(list, place, 0))
+    let rest = locate_rest(list, place);
+    let offset = list.len() - rest.len();
+    count_rest(rest)?;
+    let Some(length) = front(rest) else {
+        return Err(Refusal::NoEntry);
+    };
+    Ok(Part { offset, length })
 }
 
 /// The entry at a place as a part of the list, with the refusals of `locate`.
