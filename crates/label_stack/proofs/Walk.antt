@@ -20,7 +20,7 @@ use Rattle.label_stack.specs.Ttl.{occurs, timing_at, next_timing, found, searche
 use Rattle.label_stack.proofs.Least.{NonePasses, least_is, least-none}
 
 -- an entry stands at octet i of a list, and its second octet tells its length
-entry_at : (s : List ℕ) (i : ℕ) → Sound (drop i s) → i < length s → Front (drop i s) (get_or s (i + 1) 0)
+pub entry_at : (s : List ℕ) (i : ℕ) → Sound (drop i s) → i < length s → Front (drop i s) (get_or s (i + 1) 0)
 entry_at s i sound h =
     let n = front_size (drop i s) in
     let is = entry_first (drop i s) sound (λ z. omega (arith, length-drop i s)) in
