@@ -5,7 +5,7 @@
 ghost use Rattle.std.specs.Prelude.{◌≡◌, length, drop};
 ghost use Rattle.refusal.specs.Answer.{checked};
 ghost use Rattle.refusal.specs.Refusal.{answer_of};
-ghost use Rattle.message.specs.Read.{header as read_header, message_value, header_of, sub_tlv as read_sub_tlv, sub_tlv_of, read_of, packet_at, carried_of};
+ghost use Rattle.message.specs.Read.{is_rtm, header as read_header, message_value, header_of, sub_tlv as read_sub_tlv, sub_tlv_of, read_of, packet_at, carried_of};
 ghost use Rattle.reader.specs.Fields.{sub_tlv_in};
 
 use message::{Header, Message, SubTlv, is_sub_tlv_length, layout, types};
@@ -36,7 +36,7 @@ pub fn read_header(s: &[u8]) -> Result<Header, Refusal>
     if s.len() > layout::LARGEST {
         return Err(Refusal::TooLong);
     }
-    if s[0] / 16 != 1 || octets::read16(s, layout::CHANNEL_TYPE) != layout::RTM_CHANNEL {
+    if !is_rtm(s) {
         return Err(Refusal::NotRtm);
     }
     if s[0] % 16 != 0 {
@@ -54,6 +54,15 @@ pub fn read_header(s: &[u8]) -> Result<Header, Refusal>
         message_type,
         pad: pad(s),
     })
+}
+
+// Octets 0, 2 and 3: high half 1, and 00 0F. Read as one number they are one comparison; as two, a
+// message of type 1 took a quarter longer.
+fn is_rtm(s: &[u8]) -> bool
+    ensures { result ≡ is_rtm s.now }
+{
+    let first = octets::read32(s, 0);
+    first / 0x1000_0000 == 1 && first % 0x1_0000 == u32::from(layout::RTM_CHANNEL)
 }
 
 /// The sub-TLV with which the Value of types 2 to 4 begins, or refusal 7 or 8.
