@@ -56,8 +56,8 @@ pub fn read_header(s: &[u8]) -> Result<Header, Refusal>
     })
 }
 
-// Octets 0, 2 and 3: high half 1, and 00 0F. Read as one number they are one comparison; as two, a
-// message of type 1 took a quarter longer.
+// Octets 0, 2 and 3: high half 1, and 00 0F; octet 1 is ignored. Taken from one number, the two tests
+// compile to one comparison: read apart, they made a message of type 1 a quarter slower.
 fn is_rtm(s: &[u8]) -> bool
     ensures { result ≡ is_rtm s.now }
 {
