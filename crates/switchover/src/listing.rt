@@ -38,6 +38,7 @@ pub(crate) fn list(slots: &[Record; 16]) -> Listing
         let holds = slot.wait != 0;
         if holds {
             let place = listing.count;
+            // Raised before the slot is written: what stands behind `count` is zeros at each step.
             listing.count += 1;
             listing.slots[place] = *slot;
         }
